@@ -1,0 +1,17 @@
+pub mod Lists
+pub mod Joins
+pub mod Walks
+pub mod Values
+pub mod Commands
+pub mod Levels
+pub mod Writes
+pub mod Settle
+pub mod Struck
+pub mod Steps
+pub mod Runs
+pub mod Mentions
+pub mod Places
+pub mod Sane
+pub mod Exact
+pub mod Offences
+pub mod Leaks

@@ -1,0 +1,9 @@
+pub mod Syntax
+pub mod Vectors
+pub mod Machine
+pub mod Form
+pub mod Typing
+pub mod Guarantee
+pub mod Finite
+pub mod Offences
+pub mod Leaks
