@@ -1,0 +1,10 @@
+pub mod Fits
+pub mod Sized
+pub mod Sequence
+pub mod Selecting
+pub mod Forms
+pub mod Widths
+pub mod Reached
+pub mod Bodies
+pub mod Backward
+pub mod Firsts

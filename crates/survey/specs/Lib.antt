@@ -1,0 +1,4 @@
+pub mod Sums
+pub mod Walks
+pub mod Uses
+pub mod Sets
