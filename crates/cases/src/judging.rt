@@ -1,17 +1,8 @@
 //! Judging a design under a lattice of each kind.
-use clearance::TableLattice;
 use clearance::read_table;
 use design::read_design;
 use judgement::judge;
-use lattice::Chain;
-use lattice::ChainLattice;
-use lattice::Lattice;
-use lattice::Pair;
-use lattice::PairLattice;
-use lattice::Reversed;
-use lattice::ReversedLattice;
-use lattice::Sets;
-use lattice::SetsLattice;
+use lattice::{Chain, Lattice, Pair, Reversed, Sets};
 use refusal::Refusal;
 
 const DIAMOND: &[u8] = b"1111\n0101\n0011\n0001";

@@ -10,35 +10,33 @@ mod replaying;
 use hex::bytes_of;
 use judging::judge_named;
 use lattice::Chain;
-use reading::changed;
-use reading::print_reading;
-use refusal::RefusalDisplay;
+use reading::{changed, print_reading};
 use replaying::replay_all;
 use std::io;
 
-fn print_changed(rt: &LibcRuntime, file: &[u8], changes: &str) -> io::Result<()> {
+fn print_changed(rt: &HostRuntime, file: &[u8], changes: &str) -> io::Result<()> {
     let other = changed(rt.alloc(), file, changes)?;
     print_reading(rt, &other)
 }
 
-fn print_cut(rt: &LibcRuntime, file: &[u8], length: &str) -> io::Result<()> {
+fn print_cut(rt: &HostRuntime, file: &[u8], length: &str) -> io::Result<()> {
     let end = length.parse::<usize>().unwrap_or(0).min(file.len());
     print_reading(rt, &file[0..end])
 }
 
-fn print_verdict(rt: &LibcRuntime, asked: &str) -> io::Result<()> {
+fn print_verdict(rt: &HostRuntime, asked: &str) -> io::Result<()> {
     let Some((name, hex)) = asked.split_once(' ') else {
-        return println!(rt, "unknown");
+        return println!(rt; "unknown");
     };
     let file = bytes_of(rt.alloc(), hex)?;
     match judge_named(name, &file) {
-        Ok(Some(())) => println!(rt, "accepted"),
-        Ok(None) => println!(rt, "unknown"),
-        Err(refusal) => println!(rt, "{refusal}"),
+        Ok(Some(())) => println!(rt; "accepted"),
+        Ok(None) => println!(rt; "unknown"),
+        Err(refusal) => println!(rt; "{refusal}"),
     }
 }
 
-fn main(rt: LibcRuntime) -> io::Result<()> {
+fn main(rt: HostRuntime) -> io::Result<()> {
     let Ok(lattice) = Chain::new(2) else {
         return Ok(());
     };

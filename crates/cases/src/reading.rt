@@ -1,9 +1,7 @@
 //! Reading a file, whole, changed or cut.
 use crate::hex::bytes_of;
 use design::read_design;
-use refusal::RefusalDisplay;
-use std::alloc::AllocError;
-use std::alloc::Global;
+use std::alloc::{AllocError, Global};
 use std::io;
 
 // A copy of the file with the bytes changed that `changes` names.
@@ -25,9 +23,9 @@ pub(crate) fn changed(heap: Global, file: &[u8], changes: &str) -> Result<Vec<u8
     Ok(copy)
 }
 
-pub(crate) fn print_reading(rt: &LibcRuntime, file: &[u8]) -> io::Result<()> {
+pub(crate) fn print_reading(rt: &HostRuntime, file: &[u8]) -> io::Result<()> {
     match read_design(file) {
-        Ok(_) => println!(rt, "formed"),
-        Err(refusal) => println!(rt, "{refusal}"),
+        Ok(_) => println!(rt; "formed"),
+        Err(refusal) => println!(rt; "{refusal}"),
     }
 }

@@ -1,12 +1,9 @@
 //! Replaying a session.
 use crate::hex::bytes_of;
 use design::read_design;
-use judgement::Accepted;
-use judgement::judge;
+use judgement::{Accepted, judge};
 use lattice::Chain;
-use lattice::ChainLattice;
 use refusal::Refusal;
-use refusal::RefusalDisplay;
 use session::Session;
 use std::io;
 
@@ -39,15 +36,15 @@ fn call_of(word: &str) -> Option<Call> {
     }
 }
 
-fn print_done(rt: &LibcRuntime, answer: Result<(), Refusal>) -> io::Result<()> {
+fn print_done(rt: &HostRuntime, answer: Result<(), Refusal>) -> io::Result<()> {
     match answer {
-        Ok(()) => println!(rt, "done"),
-        Err(refusal) => println!(rt, "{refusal}"),
+        Ok(()) => println!(rt; "done"),
+        Err(refusal) => println!(rt; "{refusal}"),
     }
 }
 
 fn replay(
-    rt: &LibcRuntime,
+    rt: &HostRuntime,
     session: &mut Session<'_>,
     lattice: &Chain,
     call: Call,
@@ -63,8 +60,8 @@ fn replay(
             print_done(rt, Ok(()))
         }
         Call::Read(watcher, variable) => match session.read(lattice, watcher, variable) {
-            Ok((value, level)) => println!(rt, "{value} {level}"),
-            Err(refusal) => println!(rt, "{refusal}"),
+            Ok((value, level)) => println!(rt; "{value} {level}"),
+            Err(refusal) => println!(rt; "{refusal}"),
         },
     }
 }
@@ -75,7 +72,7 @@ fn accepted<'a>(file: &'a [u8], lattice: &Chain) -> Result<Accepted<'a>, Refusal
 }
 
 /// Replays a session: a design in hexadecimal, then its calls.
-pub(crate) fn replay_all(rt: &LibcRuntime, lattice: &Chain, line: &str) -> io::Result<()> {
+pub(crate) fn replay_all(rt: &HostRuntime, lattice: &Chain, line: &str) -> io::Result<()> {
     let mut words = line.split_whitespace();
     let Some(hex) = words.next() else {
         return Ok(());
@@ -83,13 +80,13 @@ pub(crate) fn replay_all(rt: &LibcRuntime, lattice: &Chain, line: &str) -> io::R
     let file = bytes_of(rt.alloc(), hex)?;
     let design = match accepted(&file, lattice) {
         Ok(design) => design,
-        Err(refusal) => return println!(rt, "{refusal}"),
+        Err(refusal) => return println!(rt; "{refusal}"),
     };
     let mut session = Session::open(design);
     for word in words {
         match call_of(word) {
             Some(call) => replay(rt, &mut session, lattice, call)?,
-            None => println!(rt, "unknown")?,
+            None => println!(rt; "unknown")?,
         }
     }
     let _ = session.close();

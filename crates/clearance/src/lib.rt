@@ -3,7 +3,5 @@ mod relation;
 mod table;
 mod text;
 
-pub use table::Table;
-pub use table::TableLattice;
-pub use table::table_sign;
+pub use table::{Table, table_sign};
 pub use text::read_table;

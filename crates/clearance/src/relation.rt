@@ -1,14 +1,8 @@
 //! A relation between the numbers below a count, lawful or not, and the tests of the laws.
-ghost use mathlib.Core.Path.{_≡_};
-ghost use mathlib.Core.Bool.{true};
-ghost use Prim.Native.Nat.{ℕ, _*_, _≤_, _<_};
-ghost use lib.ListN.{getD};
-ghost use denote.Ref.{now as behind};
-ghost use Rattle·lattice.specs.Kinds.{table, reversed};
-ghost use Rattle·lattice.specs.Meaning.{Meaning, Reflexive, Antisymmetric, Transitive, Least-above, Has-joins};
-ghost use Rattle·clearance·specs.Tables.{Bits, Levels, Lists-joins, table-levels, reversed-levels};
-ghost use Rattle·std.specs.Options.{Cases as BySome};
-ghost use Rattle·std.specs.Orderings.{Decides};
+ghost use Rattle.std.specs.Prelude.{◌≡◌, ℕ, ◌*◌, ◌<◌, ◌≤◌, true, Decides, MatchOption, slice_index};
+ghost use Rattle.lattice.specs.Kinds.{table, reversed};
+ghost use Rattle.lattice.specs.Meaning.{Meaning, Reflexive, Antisymmetric, Transitive, LeastAbove, HasJoins};
+ghost use Rattle.clearance.specs.Tables.{Bits, Levels, ListsJoins, table_levels, reversed_levels};
 
 /// The most levels of a table.
 pub(crate) const MOST_ROWS: u32 = 16;
@@ -18,7 +12,7 @@ pub(crate) const MOST_CELLS: usize = 256;
 
 // The byte at a place, 0 past the end.
 pub(crate) fn byte_at(bytes: &[u8], i: usize) -> u8
-    ensures { λ r. ⌜ r ≡ getD (now (bytes .entry)) i 0 ⌝ }
+    ensures { result ≡ slice_index bytes.now i }
 {
     if i < bytes.len() { bytes[i] } else { 0 }
 }
@@ -30,10 +24,10 @@ pub(crate) trait Relation {
     ghost levels: { (s : Self) → Levels (relation s) };
 
     fn size(&self) -> u32
-        ensures { λ r. ⌜ r ≡ relation (now (self .entry)) .count ⌝ };
+        ensures { result ≡ (relation self.now).count };
 
     fn holds(&self, a: u32, b: u32) -> bool
-        ensures { λ r. ⌜ r ≡ relation (now (self .entry)) .below a b ⌝ };
+        ensures { result ≡ (relation self.now).below a b };
 }
 
 /// A square of bytes: row `a`, column `b` holds 1 where `a` is related to `b`.
@@ -44,10 +38,10 @@ pub(crate) struct Grid<'a> {
     ghost most: { n ≤ 16 },
 }
 
-pub(crate) impl Relation for Grid<'_> as GridRelation {
-    ghost relation = { λ s. table (s .n) (behind (s .bytes)) };
+impl Relation for Grid<'_> {
+    ghost relation = { λ s. table s.n s.bytes.now };
 
-    ghost levels = { λ s. table-levels (s .n) (behind (s .bytes)) };
+    ghost levels = { λ s. table_levels s.n s.bytes.now };
 
     fn size(&self) -> u32 {
         self.n
@@ -67,10 +61,10 @@ pub(crate) struct Turned<R> {
     pub of: R,
 }
 
-pub(crate) impl<R: Relation> Relation for Turned<R> as TurnedRelation {
-    ghost relation = { λ s. reversed (R·Relation .relation (s .of)) };
+impl<R: Relation> Relation for Turned<R> {
+    ghost relation = { λ s. reversed (R.Relation.relation s.of) };
 
-    ghost levels = { λ s. reversed-levels (R·Relation .levels (s .of)) };
+    ghost levels = { λ s. reversed_levels (R.Relation.levels s.of) };
 
     fn size(&self) -> u32 {
         self.of.size()
@@ -82,7 +76,7 @@ pub(crate) impl<R: Relation> Relation for Turned<R> as TurnedRelation {
 }
 
 pub(crate) fn is_reflexive<R: Relation>(r: &R) -> bool
-    ensures { λ yes. ⌜ Decides yes (Reflexive (relation (now (r .entry)))) ⌝ }
+    ensures { Decides result (Reflexive (relation r.now)) }
 {
     for a in 0..r.size() {
         if !r.holds(a, a) {
@@ -93,7 +87,7 @@ pub(crate) fn is_reflexive<R: Relation>(r: &R) -> bool
 }
 
 pub(crate) fn is_antisymmetric<R: Relation>(r: &R) -> bool
-    ensures { λ yes. ⌜ Decides yes (Antisymmetric (relation (now (r .entry)))) ⌝ }
+    ensures { Decides result (Antisymmetric (relation r.now)) }
 {
     let n = r.size();
     for a in 0..n {
@@ -107,7 +101,7 @@ pub(crate) fn is_antisymmetric<R: Relation>(r: &R) -> bool
 }
 
 pub(crate) fn is_transitive<R: Relation>(r: &R) -> bool
-    ensures { λ yes. ⌜ Decides yes (Transitive (relation (now (r .entry)))) ⌝ }
+    ensures { Decides result (Transitive (relation r.now)) }
 {
     let n = r.size();
     for a in 0..n {
@@ -123,7 +117,7 @@ pub(crate) fn is_transitive<R: Relation>(r: &R) -> bool
 }
 
 pub(crate) fn is_least_above<R: Relation>(r: &R, a: u32, b: u32, x: u32) -> bool
-    ensures { λ yes. ⌜ Decides yes (Least-above (relation (now (r .entry))) a b x) ⌝ }
+    ensures { Decides result (LeastAbove (relation r.now) a b x) }
 {
     if !r.holds(a, x) || !r.holds(b, x) {
         return false;
@@ -138,7 +132,7 @@ pub(crate) fn is_least_above<R: Relation>(r: &R, a: u32, b: u32, x: u32) -> bool
 
 // The least number at or above both, where there is one.
 pub(crate) fn least_above<R: Relation>(r: &R, a: u32, b: u32) -> Option<u32>
-    ensures { λ o. ⌜ BySome o ((x : ℕ) → Least-above (relation (now (r .entry))) a b x → ⊥) (λ x. Least-above (relation (now (r .entry))) a b x) ⌝ }
+    ensures { MatchOption result ((x : ℕ) → LeastAbove (relation r.now) a b x → ⊥) (λ x. LeastAbove (relation r.now) a b x) }
 {
     for x in 0..r.size() {
         if is_least_above(r, a, b, x) {
@@ -150,8 +144,8 @@ pub(crate) fn least_above<R: Relation>(r: &R, a: u32, b: u32) -> Option<u32>
 
 // The least numbers at or above each two, row by row, where there are all.
 pub(crate) fn joins_of<R: Relation>(r: &R) -> Option<[u8; MOST_CELLS]>
-    requires { ⌜ relation (now r) .count ≤ 16 ⌝ }
-    ensures { λ o. ⌜ BySome o (Has-joins (relation (now (r .entry))) → ⊥) (λ joins. Lists-joins (relation (now (r .entry))) joins) ⌝ }
+    requires { (relation r.now).count ≤ 16 }
+    ensures { MatchOption result (HasJoins (relation r.now) → ⊥) (λ joins. ListsJoins (relation r.now) joins) }
 {
     let n = r.size();
     let mut joins = [0; MOST_CELLS];
@@ -165,7 +159,7 @@ pub(crate) fn joins_of<R: Relation>(r: &R) -> Option<[u8; MOST_CELLS]>
 }
 
 pub(crate) fn are_bits(bytes: &[u8]) -> bool
-    ensures { λ yes. ⌜ Decides yes (Bits (now (bytes .entry))) ⌝ }
+    ensures { Decides result (Bits bytes.now) }
 {
     for x in bytes {
         if *x > 1 {

@@ -1,27 +1,14 @@
 //! T: the lattice that a table gives.
-ghost use mathlib.Core.Path.{_≡_};
-ghost use mathlib.Core.Bool.{true};
-ghost use Prim.Native.Nat.{ℕ, _*_, _≤_, _<_};
-ghost use lib.ListN.{length, take};
-ghost use Rattle·lattice.specs.Kinds.{table};
-ghost use Rattle·lattice.specs.Meaning.{Least-above, Greatest-below};
-ghost use Rattle·clearance·specs.Tables.{Sound, Worked-out, Countable, Table-refused, Order-table};
-ghost use Rattle·std.specs.Orderings.{Decides};
-ghost use Rattle·std.specs.Results.{Cases};
-use crate::relation::Grid;
-use crate::relation::GridRelation;
-use crate::relation::MOST_CELLS;
-use crate::relation::MOST_ROWS;
-use crate::relation::Relation;
-use crate::relation::Turned;
-use crate::relation::TurnedRelation;
-use crate::relation::are_bits;
-use crate::relation::is_antisymmetric;
-use crate::relation::is_reflexive;
-use crate::relation::is_transitive;
-use crate::relation::joins_of;
-use lattice::Lattice;
-use lattice::Level;
+ghost use Rattle.std.specs.Prelude.{◌≡◌, ℕ, ◌*◌, ◌<◌, ◌≤◌, true, length, take, Decides, MatchResult};
+ghost use Rattle.lattice.specs.Kinds.{table};
+ghost use Rattle.lattice.specs.Meaning.{LeastAbove, GreatestBelow};
+ghost use Rattle.clearance.specs.Tables.{Sound, WorkedOut, Countable, TableRefused, OrderTable};
+
+use crate::relation::{
+    Grid, MOST_CELLS, MOST_ROWS, Relation, Turned, are_bits, is_antisymmetric, is_reflexive,
+    is_transitive, joins_of,
+};
+use lattice::{Lattice, Level};
 use refusal::Refusal;
 
 /// Levels 0 to n - 1: row `a`, column `b` tells whether `a` is at or below `b`.
@@ -34,13 +21,13 @@ pub struct Table {
     meets: [u8; MOST_CELLS],
     ghost some: { 1 ≤ n },
     ghost most: { n ≤ 16 },
-    ghost sound: { ∥ Worked-out n (take (n * n) bytes) joins meets ∥₁ },
+    ghost sound: { ∥ WorkedOut n (take (n * n) bytes) joins meets ∥₁ },
 }
 
 // Whether the bytes are the table of an order of n levels.
 fn is_order(n: u32, bytes: &[u8]) -> bool
-    requires { ⌜ n ≤ 16 ⌝ }
-    ensures { λ r. ⌜ Decides r (Order-table n (now (bytes .entry))) ⌝ }
+    requires { n ≤ 16 }
+    ensures { Decides result (OrderTable n bytes.now) }
 {
     if bytes.len() != (n * n) as usize || !are_bits(bytes) {
         return false;
@@ -51,8 +38,8 @@ fn is_order(n: u32, bytes: &[u8]) -> bool
 
 // The bytes, with zeros after them.
 fn padded(bytes: &[u8]) -> [u8; MOST_CELLS]
-    requires { ⌜ length (now bytes) ≤ 256 ⌝ }
-    ensures { λ r. ⌜ take (length (now (bytes .entry))) r ≡ now (bytes .entry) ⌝ }
+    requires { length bytes.now ≤ 256 }
+    ensures { take (length bytes.now) result ≡ bytes.now }
 {
     let mut all = [0; MOST_CELLS];
     all[0..bytes.len()].copy_from_slice(bytes);
@@ -62,9 +49,9 @@ fn padded(bytes: &[u8]) -> [u8; MOST_CELLS]
 impl Table {
     /// The lattice of `n` levels whose table is `bytes`, row by row.
     pub fn new(n: u32, bytes: &[u8]) -> Result<Table, Refusal>
-        ensures { λ r. ⌜ Cases r
-            (λ t. Countable n × Sound n (now (bytes .entry)) × (t .n ≡ n) × (take (n * n) (t .bytes) ≡ now (bytes .entry)))
-            (λ f. Table-refused n (Sound n (now (bytes .entry))) f) ⌝ }
+        ensures { MatchResult result
+            (λ t. Countable n × Sound n bytes.now × (t.n ≡ n) × (take (n * n) t.bytes ≡ bytes.now))
+            (λ f. TableRefused n (Sound n bytes.now) f) }
     {
         if n < 1 || n > MOST_ROWS {
             return Err(Refusal::OutsideLimits);
@@ -91,25 +78,25 @@ impl Table {
 
     // The least level at or above two levels.
     fn least(&self, a: Level, b: Level) -> Level
-        requires { ⌜ a < now self .n ⌝ ∗ ⌜ b < now self .n ⌝ }
-        ensures { λ r. ⌜ Least-above (table (now (self .entry) .n) (take (now (self .entry) .n * now (self .entry) .n) (now (self .entry) .bytes))) a b r ⌝ }
+        requires { (a < self.now.n) × (b < self.now.n) }
+        ensures { LeastAbove (table self.now.n (take (self.now.n * self.now.n) self.now.bytes)) a b result }
     {
         self.joins[(a * self.n + b) as usize] as Level
     }
 
     // The greatest level at or below two levels.
     fn greatest(&self, a: Level, b: Level) -> Level
-        requires { ⌜ a < now self .n ⌝ ∗ ⌜ b < now self .n ⌝ }
-        ensures { λ r. ⌜ Greatest-below (table (now (self .entry) .n) (take (now (self .entry) .n * now (self .entry) .n) (now (self .entry) .bytes))) a b r ⌝ }
+        requires { (a < self.now.n) × (b < self.now.n) }
+        ensures { GreatestBelow (table self.now.n (take (self.now.n * self.now.n) self.now.bytes)) a b result }
     {
         self.meets[(a * self.n + b) as usize] as Level
     }
 }
 
-pub impl Lattice for Table as TableLattice {
+impl Lattice for Table {
     const SIGN: char = 'T';
 
-    ghost meaning = { λ s. table (s .n) (take (s .n * s .n) (s .bytes)) };
+    ghost meaning = { λ s. table s.n (take (s.n * s.n) s.bytes) };
 
     fn count(&self) -> u32 {
         self.n
@@ -158,7 +145,7 @@ pub impl Lattice for Table as TableLattice {
 
 /// The sign of every table: `T`.
 pub fn table_sign() -> char
-    ensures { λ r. ⌜ r ≡ 84 ⌝ }
+    ensures { result ≡ 84 }
 {
     Table::SIGN
 }

@@ -1,27 +1,22 @@
 //! A table as text: n lines of n digits 0 or 1.
-ghost use mathlib.Core.Path.{_≡_};
-ghost use Prim.Native.Nat.{ℕ, _*_, _≤_, _<_};
-ghost use lib.ListN.{length, getD, take};
-ghost use Rattle·clearance·specs.Tables.{Sound, Countable, Table-refused};
-ghost use Rattle·clearance·specs.Text.{begins, lineCount, Ruled, digit, cell, cells};
-ghost use Rattle·std.specs.Orderings.{Decides};
-ghost use Rattle·std.specs.Results.{Cases};
+ghost use Rattle.std.specs.Prelude.{◌≡◌, ℕ, ◌*◌, ◌<◌, ◌≤◌, length, take, Decides, MatchResult};
+ghost use Rattle.clearance.specs.Tables.{Sound, Countable, TableRefused};
+ghost use Rattle.clearance.specs.Text.{begins, line_count, Ruled, digit, cell, cells};
+
 use crate::Table;
-use crate::relation::MOST_CELLS;
-use crate::relation::MOST_ROWS;
-use crate::relation::byte_at;
+use crate::relation::{MOST_CELLS, MOST_ROWS, byte_at};
 use refusal::Refusal;
 
 const LINE_END: u8 = b'\n';
 
 fn begins_line(text: &[u8], i: usize) -> bool
-    ensures { λ r. ⌜ r ≡ begins (now (text .entry)) i ⌝ }
+    ensures { result ≡ begins text.now i }
 {
     i == 0 || byte_at(text, i - 1) == LINE_END
 }
 
 fn line_count(text: &[u8]) -> usize
-    ensures { λ r. ⌜ r ≡ lineCount (now (text .entry)) ⌝ }
+    ensures { result ≡ line_count text.now }
 {
     let mut lines = 0;
     for i in 0..text.len() {
@@ -34,8 +29,8 @@ fn line_count(text: &[u8]) -> usize
 
 // Whether the text is n lines of n bytes.
 fn is_ruled(n: usize, text: &[u8]) -> bool
-    requires { ⌜ n ≤ 16 ⌝ }
-    ensures { λ r. ⌜ Decides r (Ruled n (now (text .entry))) ⌝ }
+    requires { n ≤ 16 }
+    ensures { Decides result (Ruled n text.now) }
 {
     let size = n * (n + 1);
     if text.len() != size && text.len() + 1 != size {
@@ -52,7 +47,7 @@ fn is_ruled(n: usize, text: &[u8]) -> bool
 
 // What a byte says: 0, 1, or neither.
 fn digit_of(b: u8) -> u8
-    ensures { λ r. ⌜ r ≡ digit b ⌝ }
+    ensures { result ≡ digit b }
 {
     match b {
         b'0' => 0,
@@ -63,8 +58,8 @@ fn digit_of(b: u8) -> u8
 
 // The cells of n lines, row by row.
 fn cells_of(n: usize, text: &[u8]) -> [u8; MOST_CELLS]
-    requires { ⌜ n ≤ 16 ⌝ }
-    ensures { λ r. ⌜ take (n * n) r ≡ cells n (now (text .entry)) ⌝ }
+    requires { n ≤ 16 }
+    ensures { take (n * n) result ≡ cells n text.now }
 {
     let mut all = [0; MOST_CELLS];
     for k in 0..n * n {
@@ -75,10 +70,10 @@ fn cells_of(n: usize, text: &[u8]) -> [u8; MOST_CELLS]
 
 /// The lattice whose table the text spells.
 pub fn read_table(text: &[u8]) -> Result<Table, Refusal>
-    ensures { λ r. ⌜ Cases r
-        (λ t. Countable (lineCount (now (text .entry))) × Ruled (lineCount (now (text .entry))) (now (text .entry)) × Sound (lineCount (now (text .entry))) (cells (lineCount (now (text .entry))) (now (text .entry)))
-        × (t .n ≡ lineCount (now (text .entry))) × (take (t .n * t .n) (t .bytes) ≡ cells (t .n) (now (text .entry))))
-        (λ f. Table-refused (lineCount (now (text .entry))) (Ruled (lineCount (now (text .entry))) (now (text .entry)) × Sound (lineCount (now (text .entry))) (cells (lineCount (now (text .entry))) (now (text .entry)))) f) ⌝ }
+    ensures { MatchResult result
+        (λ t. Countable (line_count text.now) × Ruled (line_count text.now) text.now × Sound (line_count text.now) (cells (line_count text.now) text.now)
+        × (t.n ≡ line_count text.now) × (take (t.n * t.n) t.bytes ≡ cells t.n text.now))
+        (λ f. TableRefused (line_count text.now) (Ruled (line_count text.now) text.now × Sound (line_count text.now) (cells (line_count text.now) text.now)) f) }
 {
     let n = line_count(text);
     if n < 1 || n > MOST_ROWS as usize {

@@ -1,22 +1,12 @@
 //! Reads a design on standard input and prints it for an engineer, or the refusal and what it means.
 use design::read_design;
-use listing::CommandText;
-use listing::CommandTextDisplay;
-use listing::Reason;
-use listing::ReasonDisplay;
-use listing::Source;
-use listing::TableText;
-use listing::TableTextDisplay;
-use listing::VariableText;
-use listing::VariableTextDisplay;
-use records::BlockKind;
-use records::block_at;
-use refusal::RefusalDisplay;
+use listing::{CommandText, Reason, Source, TableText, VariableText};
+use records::{BlockKind, block_at};
 use refusal::Section;
 use std::io;
 use std::io::Read;
 
-fn print_tables(rt: &LibcRuntime, source: Source<'_>) -> io::Result<()> {
+fn print_tables(rt: &HostRuntime, source: Source<'_>) -> io::Result<()> {
     for table in 0..source.layout.count(Section::Tables) {
         let entries = 16;
         let levels = TableText {
@@ -24,19 +14,19 @@ fn print_tables(rt: &LibcRuntime, source: Source<'_>) -> io::Result<()> {
             table,
             entries,
         };
-        println!(rt, "table {table}:{levels}")?;
+        println!(rt; "table {table}:{levels}")?;
     }
     Ok(())
 }
 
-fn print_variables(rt: &LibcRuntime, source: Source<'_>) -> io::Result<()> {
+fn print_variables(rt: &HostRuntime, source: Source<'_>) -> io::Result<()> {
     for variable in 0..source.layout.count(Section::Variables) {
-        println!(rt, "{}", VariableText { source, variable })?;
+        println!(rt; "{}", VariableText { source, variable })?;
     }
     Ok(())
 }
 
-fn print_blocks(rt: &LibcRuntime, source: Source<'_>) -> io::Result<()> {
+fn print_blocks(rt: &HostRuntime, source: Source<'_>) -> io::Result<()> {
     for n in 0..source.layout.count(Section::Blocks) {
         let block = block_at(source.file, source.layout, n);
         let kind = match block.kind {
@@ -45,9 +35,8 @@ fn print_blocks(rt: &LibcRuntime, source: Source<'_>) -> io::Result<()> {
         };
         let command = block.top;
         let depth = 1;
-        println!(rt, "{kind} block {n}:")?;
-        print!(
-            rt,
+        println!(rt; "{kind} block {n}:")?;
+        print!(rt;
             "{}",
             CommandText {
                 source,
@@ -59,13 +48,13 @@ fn print_blocks(rt: &LibcRuntime, source: Source<'_>) -> io::Result<()> {
     Ok(())
 }
 
-fn print_design(rt: &LibcRuntime, source: Source<'_>) -> io::Result<()> {
+fn print_design(rt: &HostRuntime, source: Source<'_>) -> io::Result<()> {
     print_tables(rt, source)?;
     print_variables(rt, source)?;
     print_blocks(rt, source)
 }
 
-fn main(rt: LibcRuntime) -> io::Result<()> {
+fn main(rt: HostRuntime) -> io::Result<()> {
     let mut file = Vec::new(rt.alloc());
     rt.stdin().read_to_end(&mut file)?;
     let file = file.as_slice();
@@ -75,8 +64,8 @@ fn main(rt: LibcRuntime) -> io::Result<()> {
             print_design(&rt, Source { file, layout })
         }
         Err(refusal) => {
-            println!(rt, "{refusal}")?;
-            println!(rt, "{}", Reason { refusal })
+            println!(rt; "{refusal}")?;
+            println!(rt; "{}", Reason { refusal })
         }
     }
 }

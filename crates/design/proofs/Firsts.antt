@@ -1,64 +1,55 @@
 -- The first refusal, and what no refusal means.
-use mathlib.Core.Path.{_≡_, refl, sym, ap, subst, _∙_}
-use mathlib.Core.Bool.{Bool, true, false, cond, true≢false}
-use mathlib.Core.List.{List}
-use mathlib.Core.Logic.{_⊎_, inr, ⊎-elim}
-use Prim.Native.Nat.{ℕ, zero, suc, _+_, _<_}
-use native.Mathlib.Omega.{arith}
-use Rattle·std.proofs.shelf.Tests.{cases-lt, or-parts}
-use Rattle·std.specs.declared.option.Option.{Option}
-use Rattle·std.specs.declared.option.Option.the-variants.{Some, None}
-use Rattle·std.specs.declared.result.Result.{Result}
-use Rattle·std.specs.declared.result.Result.the-variants.{Ok, Err}
-use Rattle·refusal.specs.declared.Section.{Section}
-use Rattle·refusal.specs.declared.Section.the-variants.{Tables, Variables, Blocks, Commands, Expressions}
-use Rattle·refusal.specs.declared.Refusal.{Refusal}
-use Rattle·refusal.specs.Notice.{notice, sectionNumber}
-use Rattle·records.specs.declared.layout.Layout.{Layout}
-use Rattle·records.specs.Layouts.{sectionAt, orElse, layoutOf, countIn}
-use Rattle·records.specs.Cells.{commandAt, expressionAt}
-use Rattle·records.specs.Trees.{settledAt}
-use Rattle·survey.specs.Uses.{commandUsed, exprUsed}
-use Rattle·survey.specs.Sums.{any}
-use Rattle·survey.proofs.Counting.{any-false-at}
-use Rattle·rules.specs.declared.Rule.{Rule}
-use Rattle·rules.specs.declared.Rule.the-variants.{Range, Use, Width, Assignment, Reading, Selector}
-use Rattle·rules.specs.Parts.{differ, commandHigh, exprHigh}
-use Rattle·rules.specs.Blocks.{clockedAt}
-use Rattle·rules.specs.Rules.{offends}
-use Rattle·rules.specs.First.{refusalOf, first, refusedAt, refusedIn, refusedBy}
-use Rattle·design·specs.First.{ruleAt, formRefusal}
-use Rattle·design·specs.Right.{Right, Quiet, Before, First, Refused, Says}
-use Rattle·design·proofs.Fits.{not-differ, second}
-use Rattle·design·proofs.Selecting.{not-not}
-use Rattle·design·proofs.Forms.{formed}
-use Rattle·design·proofs.Backward.{quiet-back}
+use Rattle.std.proofs.Common.{◌≡◌, ℕ, zero, suc, ◌+◌, ◌<◌, Bool, true, false, cond, ◌⊎◌, List, Some, None, Ok, Err, Option, Result, sym, refl, ap, ◌∙◌, subst, inr, ⊎_elim, true≢false, arith}
+use Rattle.std.proofs.lemmas.Bool.{cases_lt, or_parts}
+use Rattle.refusal.specs.declared.Section.{Section}
+use Rattle.refusal.specs.declared.Section.TheVariants.{Tables, Variables, Blocks, Commands, Expressions}
+use Rattle.refusal.specs.declared.Refusal.{Refusal}
+use Rattle.refusal.specs.Notice.{notice, section_number}
+use Rattle.records.specs.declared.layout.Layout.{Layout}
+use Rattle.records.specs.Layouts.{section_at, or_else, layout_of, count_in}
+use Rattle.records.specs.Cells.{command_at, expression_at}
+use Rattle.records.specs.Trees.{settled_at}
+use Rattle.survey.specs.Uses.{command_used, expr_used}
+use Rattle.survey.specs.Sums.{any}
+use Rattle.survey.proofs.Counting.{any_false_at}
+use Rattle.rules.specs.declared.Rule.{Rule}
+use Rattle.rules.specs.declared.Rule.TheVariants.{Range, Use, Width, Assignment, Reading, Selector}
+use Rattle.rules.specs.Parts.{differ, command_high, expr_high}
+use Rattle.rules.specs.Blocks.{clocked_at}
+use Rattle.rules.specs.Rules.{offends}
+use Rattle.rules.specs.First.{refusal_of, first, refused_at, refused_in, refused_by}
+use Rattle.design.specs.First.{rule_at, form_refusal}
+use Rattle.design.specs.Right.{Right, Quiet, Before, First, Refused, Says}
+use Rattle.design.proofs.Fits.{not_differ, second}
+use Rattle.design.proofs.Selecting.{not_not}
+use Rattle.design.proofs.Forms.{formed}
+use Rattle.design.proofs.Backward.{quiet_back}
 
 -- ---- the first that numbers give
 
-abbrev is-none : {A : Type 0} → Option A → Bool
-is-none None = true
-is-none (Some x) = false
+abbrev is_none : {A : Type 0} → Option A → Bool
+is_none None = true
+is_none (Some x) = false
 
-some-none : {A : Type 0} (x : A) → Some x ≡ None → ⊥
-some-none x e = true≢false (sym (ap is-none e))
+some_none : {A : Type 0} (x : A) → Some x ≡ None → ⊥
+some_none x e = true≢false (sym (ap is_none e))
 
-left-none : {A : Type 0} (o p : Option A) → orElse o p ≡ None → o ≡ None
-left-none None p e = refl
-left-none (Some x) p e = e
+left_none : {A : Type 0} (o p : Option A) → or_else o p ≡ None → o ≡ None
+left_none None p e = refl
+left_none (Some x) p e = e
 
-right-none : {A : Type 0} (o p : Option A) → orElse o p ≡ None → p ≡ None
-right-none None p e = e
-right-none (Some x) p e = absurd (some-none x e)
+right_none : {A : Type 0} (o p : Option A) → or_else o p ≡ None → p ≡ None
+right_none None p e = e
+right_none (Some x) p e = absurd (some_none x e)
 
-none-at : {A : Type 0} (g : ℕ → Option A) (n k : ℕ) → first g n ≡ None → k < n → g k ≡ None
+none_at : {A : Type 0} (g : ℕ → Option A) (n k : ℕ) → first g n ≡ None → k < n → g k ≡ None
 unfolding first
-none-at g zero k e h = absurd (omega arith)
-none-at g (suc n) k e h =
-    ⊎-elim
-    (λ lt. none-at g n k (left-none (first g n) (g n) e) lt)
-    (λ ge. let z : n ≡ k = omega arith in subst (λ m. g m ≡ None) z (right-none (first g n) (g n) e))
-    (cases-lt k n)
+none_at g zero k e h = absurd (omega arith)
+none_at g (suc n) k e h =
+    ⊎_elim
+    (λ lt. none_at g n k (left_none (first g n) (g n) e) lt)
+    (λ ge. let z : n ≡ k = omega arith in subst (λ m. g m ≡ None) z (right_none (first g n) (g n) e))
+    (cases_lt k n)
 
 record Least {A : Type 0} (g : ℕ → Option A) (n : ℕ) (x : A) : Type 0 where
   at : ℕ
@@ -68,22 +59,22 @@ record Least {A : Type 0} (g : ℕ → Option A) (n : ℕ) (x : A) : Type 0 wher
 
 least : {A : Type 0} (g : ℕ → Option A) (n : ℕ) (x : A) → first g n ≡ Some x → Least g n x
 unfolding first
-least g zero x e = absurd (some-none x (sym e))
+least g zero x e = absurd (some_none x (sym e))
 least {A} g (suc n) x e = by (first g n) refl (λ h. least g n x h)
   where
     by : (o : Option A) → first g n ≡ o → (first g n ≡ Some x → Least g n x) → Least g (suc n) x
-    by None is ih = record { at = n; low = omega arith; gives = sym (ap (λ o. orElse o (g n)) is) ∙ e; before = λ j lt. none-at g n j is lt }
+    by None is ih = record { at = n; low = omega arith; gives = sym (ap (λ o. or_else o (g n)) is) ∙ e; before = λ j lt. none_at g n j is lt }
     by (Some y) is ih =
-        let r = ih (is ∙ sym (ap (λ o. orElse o (g n)) is) ∙ e) in
-        record { at = r .at; low = omega (arith, r .low); gives = r .gives; before = r .before }
+        let r = ih (is ∙ sym (ap (λ o. or_else o (g n)) is) ∙ e) in
+        record { at = r.at; low = omega (arith, r.low); gives = r.gives; before = r.before }
 
 taken : {A : Type 0} (b : Bool) (x y : A) → cond b (Some x) None ≡ Some y → (b ≡ true) × (Some x ≡ Some y)
 taken true x y e = (refl, e)
-taken false x y e = absurd (some-none y (sym e))
+taken false x y e = absurd (some_none y (sym e))
 
-no-offence : {A : Type 0} (b : Bool) (x : A) → cond b (Some x) None ≡ None → b ≡ false
-no-offence true x e = absurd (some-none x e)
-no-offence false x e = refl
+no_offence : {A : Type 0} (b : Bool) (x : A) → cond b (Some x) None ≡ None → b ≡ false
+no_offence true x e = absurd (some_none x e)
+no_offence false x e = refl
 
 abbrev unsome : {A : Type 0} → A → Option A → A
 unsome d (Some x) = x
@@ -91,197 +82,197 @@ unsome d None = d
 
 -- ---- rules and sections by their places
 
-abbrev ruleIndex : Rule → ℕ
-ruleIndex Range = 0
-ruleIndex Use = 1
-ruleIndex Width = 2
-ruleIndex Assignment = 3
-ruleIndex Reading = 4
-ruleIndex Selector = 5
+abbrev rule_index : Rule → ℕ
+rule_index Range = 0
+rule_index Use = 1
+rule_index Width = 2
+rule_index Assignment = 3
+rule_index Reading = 4
+rule_index Selector = 5
 
-rule-low : (k : Rule) → ruleIndex k < 6
-rule-low Range = omega arith
-rule-low Use = omega arith
-rule-low Width = omega arith
-rule-low Assignment = omega arith
-rule-low Reading = omega arith
-rule-low Selector = omega arith
+rule_low : (k : Rule) → rule_index k < 6
+rule_low Range = omega arith
+rule_low Use = omega arith
+rule_low Width = omega arith
+rule_low Assignment = omega arith
+rule_low Reading = omega arith
+rule_low Selector = omega arith
 
-rule-back : (k : Rule) → ruleAt (ruleIndex k) ≡ k
-rule-back Range = refl
-rule-back Use = refl
-rule-back Width = refl
-rule-back Assignment = refl
-rule-back Reading = refl
-rule-back Selector = refl
+rule_back : (k : Rule) → rule_at (rule_index k) ≡ k
+rule_back Range = refl
+rule_back Use = refl
+rule_back Width = refl
+rule_back Assignment = refl
+rule_back Reading = refl
+rule_back Selector = refl
 
-rule-there : (k : ℕ) → k < 6 → ruleIndex (ruleAt k) ≡ k
-rule-there zero h = refl
-rule-there (suc zero) h = refl
-rule-there (suc (suc zero)) h = refl
-rule-there (suc (suc (suc zero))) h = refl
-rule-there (suc (suc (suc (suc zero)))) h = refl
-rule-there (suc (suc (suc (suc (suc zero))))) h = refl
-rule-there (suc (suc (suc (suc (suc (suc k)))))) h = absurd (omega arith)
+rule_there : (k : ℕ) → k < 6 → rule_index (rule_at k) ≡ k
+rule_there zero h = refl
+rule_there (suc zero) h = refl
+rule_there (suc (suc zero)) h = refl
+rule_there (suc (suc (suc zero))) h = refl
+rule_there (suc (suc (suc (suc zero)))) h = refl
+rule_there (suc (suc (suc (suc (suc zero))))) h = refl
+rule_there (suc (suc (suc (suc (suc (suc k)))))) h = absurd (omega arith)
 
-section-low : (s : Section) → sectionNumber s < 5
-section-low Tables = omega arith
-section-low Variables = omega arith
-section-low Blocks = omega arith
-section-low Commands = omega arith
-section-low Expressions = omega arith
+section_low : (s : Section) → section_number s < 5
+section_low Tables = omega arith
+section_low Variables = omega arith
+section_low Blocks = omega arith
+section_low Commands = omega arith
+section_low Expressions = omega arith
 
-section-back : (s : Section) → sectionAt (sectionNumber s) ≡ s
-section-back Tables = refl
-section-back Variables = refl
-section-back Blocks = refl
-section-back Commands = refl
-section-back Expressions = refl
+section_back : (s : Section) → section_at (section_number s) ≡ s
+section_back Tables = refl
+section_back Variables = refl
+section_back Blocks = refl
+section_back Commands = refl
+section_back Expressions = refl
 
-section-there : (i : ℕ) → i < 5 → sectionNumber (sectionAt i) ≡ i
-section-there zero h = refl
-section-there (suc zero) h = refl
-section-there (suc (suc zero)) h = refl
-section-there (suc (suc (suc zero))) h = refl
-section-there (suc (suc (suc (suc zero)))) h = refl
-section-there (suc (suc (suc (suc (suc k))))) h = absurd (omega arith)
+section_there : (i : ℕ) → i < 5 → section_number (section_at i) ≡ i
+section_there zero h = refl
+section_there (suc zero) h = refl
+section_there (suc (suc zero)) h = refl
+section_there (suc (suc (suc zero))) h = refl
+section_there (suc (suc (suc (suc zero)))) h = refl
+section_there (suc (suc (suc (suc (suc k))))) h = absurd (omega arith)
 
 -- a refusal's number is its rule's
-number-is : (k : Rule) (s : Section) (n : ℕ) → notice (refusalOf k s n) .number ≡ ruleIndex k + 5
-number-is Range s n = refl
-number-is Use s n = refl
-number-is Width s n = refl
-number-is Assignment s n = refl
-number-is Reading s n = refl
-number-is Selector s n = refl
+number_is : (k : Rule) (s : Section) (n : ℕ) → (notice (refusal_of k s n)).number ≡ rule_index k + 5
+number_is Range s n = refl
+number_is Use s n = refl
+number_is Width s n = refl
+number_is Assignment s n = refl
+number_is Reading s n = refl
+number_is Selector s n = refl
 
-record-is : (k : Rule) (s : Section) (n : ℕ) → notice (refusalOf k s n) .«record» ≡ n
-record-is Range s n = refl
-record-is Use s n = refl
-record-is Width s n = refl
-record-is Assignment s n = refl
-record-is Reading s n = refl
-record-is Selector s n = refl
+record_is : (k : Rule) (s : Section) (n : ℕ) → (notice (refusal_of k s n)).«record» ≡ n
+record_is Range s n = refl
+record_is Use s n = refl
+record_is Width s n = refl
+record_is Assignment s n = refl
+record_is Reading s n = refl
+record_is Selector s n = refl
 
 module _ (f : List ℕ) (l : Layout) where
   -- a record that breaks a rule is named with its own section
-  section-is : (k : Rule) (s : Section) (n : ℕ) → offends f l k s n ≡ true → notice (refusalOf k s n) .section ≡ sectionNumber s
-  section-is Range s n e = refl
-  section-is Use s n e = refl
-  section-is Width s n e = refl
-  section-is Assignment s n e = refl
-  section-is Reading Tables n e = absurd (true≢false (sym e))
-  section-is Reading Variables n e = absurd (true≢false (sym e))
-  section-is Reading Blocks n e = absurd (true≢false (sym e))
-  section-is Reading Commands n e = absurd (true≢false (sym e))
-  section-is Reading Expressions n e = refl
-  section-is Selector Tables n e = absurd (true≢false (sym e))
-  section-is Selector Variables n e = refl
-  section-is Selector Blocks n e = absurd (true≢false (sym e))
-  section-is Selector Commands n e = absurd (true≢false (sym e))
-  section-is Selector Expressions n e = absurd (true≢false (sym e))
+  section_is : (k : Rule) (s : Section) (n : ℕ) → offends f l k s n ≡ true → (notice (refusal_of k s n)).section ≡ section_number s
+  section_is Range s n e = refl
+  section_is Use s n e = refl
+  section_is Width s n e = refl
+  section_is Assignment s n e = refl
+  section_is Reading Tables n e = absurd (true≢false (sym e))
+  section_is Reading Variables n e = absurd (true≢false (sym e))
+  section_is Reading Blocks n e = absurd (true≢false (sym e))
+  section_is Reading Commands n e = absurd (true≢false (sym e))
+  section_is Reading Expressions n e = refl
+  section_is Selector Tables n e = absurd (true≢false (sym e))
+  section_is Selector Variables n e = refl
+  section_is Selector Blocks n e = absurd (true≢false (sym e))
+  section_is Selector Commands n e = absurd (true≢false (sym e))
+  section_is Selector Expressions n e = absurd (true≢false (sym e))
 
-  by-none : (k : Rule) (s : Section) (n : ℕ) → refusedBy f l k ≡ None → n < countIn l s → offends f l k s n ≡ false
-  by-none k s n e h =
-      let at = subst (λ x. refusedIn f l k x ≡ None) (section-back s) (none-at (λ i. refusedIn f l k (sectionAt i)) 5 (sectionNumber s) e (section-low s)) in
-      no-offence (offends f l k s n) _ (none-at (refusedAt f l k s) (countIn l s) n at h)
+  by_none : (k : Rule) (s : Section) (n : ℕ) → refused_by f l k ≡ None → n < count_in l s → offends f l k s n ≡ false
+  by_none k s n e h =
+      let at = subst (λ x. refused_in f l k x ≡ None) (section_back s) (none_at (λ i. refused_in f l k (section_at i)) 5 (section_number s) e (section_low s)) in
+      no_offence (offends f l k s n) _ (none_at (refused_at f l k s) (count_in l s) n at h)
 
-  quiet-when : formRefusal f l ≡ None → Quiet f l
-  quiet-when e k s n h = by-none k s n (subst (λ x. refusedBy f l x ≡ None) (rule-back k) (none-at (λ j. refusedBy f l (ruleAt j)) 6 (ruleIndex k) e (rule-low k))) h
+  quiet_when : form_refusal f l ≡ None → Quiet f l
+  quiet_when e k s n h = by_none k s n (subst (λ x. refused_by f l x ≡ None) (rule_back k) (none_at (λ j. refused_by f l (rule_at j)) 6 (rule_index k) e (rule_low k))) h
 
   -- the first place that offends
-  made : (k i n : ℕ) → k < 6 → i < 5 → n < countIn l (sectionAt i) → offends f l (ruleAt k) (sectionAt i) n ≡ true
-      → ((j : ℕ) → j < k → refusedBy f l (ruleAt j) ≡ None)
-      → ((j : ℕ) → j < i → refusedIn f l (ruleAt k) (sectionAt j) ≡ None)
-      → ((j : ℕ) → j < n → refusedAt f l (ruleAt k) (sectionAt i) j ≡ None)
-      → First f l (refusalOf (ruleAt k) (sectionAt i) n)
+  made : (k i n : ℕ) → k < 6 → i < 5 → n < count_in l (section_at i) → offends f l (rule_at k) (section_at i) n ≡ true
+      → ((j : ℕ) → j < k → refused_by f l (rule_at j) ≡ None)
+      → ((j : ℕ) → j < i → refused_in f l (rule_at k) (section_at j) ≡ None)
+      → ((j : ℕ) → j < n → refused_at f l (rule_at k) (section_at i) j ≡ None)
+      → First f l (refusal_of (rule_at k) (section_at i) n)
   made k i n hk hi hn off bk bi bn = record {
-    rule = ruleAt k;
-    section = sectionAt i;
+    rule = rule_at k;
+    section = section_at i;
     place = n;
     inside = hn;
     named = refl;
     offender = off;
-    none-before = λ c s m h before. no-yes (offends f l c s m) (λ e. earlier c s m h e
-        (subst (λ x. Before x (notice (refusalOf (ruleAt k) (sectionAt i) n))) refl before));
+    none_before = λ c s m h before. no_yes (offends f l c s m) (λ e. earlier c s m h e
+        (subst (λ x. Before x (notice (refusal_of (rule_at k) (section_at i) n))) refl before));
   }
     where
-      no-yes : (b : Bool) → (b ≡ true → ⊥) → b ≡ false
-      no-yes true x = absurd (x refl)
-      no-yes false x = refl
+      no_yes : (b : Bool) → (b ≡ true → ⊥) → b ≡ false
+      no_yes true x = absurd (x refl)
+      no_yes false x = refl
 
       clash : (c : Rule) (s : Section) (m : ℕ) → offends f l c s m ≡ true → offends f l c s m ≡ false → ⊥
       clash c s m e z = true≢false (sym e ∙ z)
 
-      same-rule : (c : Rule) → ruleIndex c ≡ k → c ≡ ruleAt k
-      same-rule c e = sym (rule-back c) ∙ ap ruleAt e
+      same_rule : (c : Rule) → rule_index c ≡ k → c ≡ rule_at k
+      same_rule c e = sym (rule_back c) ∙ ap rule_at e
 
-      same-section : (s : Section) → sectionNumber s ≡ i → s ≡ sectionAt i
-      same-section s e = sym (section-back s) ∙ ap sectionAt e
+      same_section : (s : Section) → section_number s ≡ i → s ≡ section_at i
+      same_section s e = sym (section_back s) ∙ ap section_at e
 
-      earlier : (c : Rule) (s : Section) (m : ℕ) → m < countIn l s → offends f l c s m ≡ true → Before (notice (refusalOf c s m)) (notice (refusalOf (ruleAt k) (sectionAt i) n)) → ⊥
+      earlier : (c : Rule) (s : Section) (m : ℕ) → m < count_in l s → offends f l c s m ≡ true → Before (notice (refusal_of c s m)) (notice (refusal_of (rule_at k) (section_at i) n)) → ⊥
       earlier c s m h e before =
-          let nc = number-is c s m in
-          let nk = number-is (ruleAt k) (sectionAt i) n in
-          let tk = rule-there k hk in
-          let sc = section-is c s m e in
-          let sk = section-is (ruleAt k) (sectionAt i) n off in
-          let ti = section-there i hi in
-          ⊎-elim
-          (λ (lt : notice (refusalOf c s m) .number < notice (refusalOf (ruleAt k) (sectionAt i) n) .number).
-          let low : ruleIndex c < k = omega (arith, nc, nk, tk, lt) in
-          clash c s m e (by-none c s m (subst (λ x. refusedBy f l x ≡ None) (rule-back c) (bk (ruleIndex c) low)) h))
+          let nc = number_is c s m in
+          let nk = number_is (rule_at k) (section_at i) n in
+          let tk = rule_there k hk in
+          let sc = section_is c s m e in
+          let sk = section_is (rule_at k) (section_at i) n off in
+          let ti = section_there i hi in
+          ⊎_elim
+          (λ (lt : (notice (refusal_of c s m)).number < (notice (refusal_of (rule_at k) (section_at i) n)).number).
+          let low : rule_index c < k = omega (arith, nc, nk, tk, lt) in
+          clash c s m e (by_none c s m (subst (λ x. refused_by f l x ≡ None) (rule_back c) (bk (rule_index c) low)) h))
           (λ rest.
-          let rule : ruleIndex c ≡ k = omega (arith, nc, nk, tk, rest .0) in
-          let is = same-rule c rule in
-          ⊎-elim
-          (λ (lt : notice (refusalOf c s m) .section < notice (refusalOf (ruleAt k) (sectionAt i) n) .section).
-          let low : sectionNumber s < i = omega (arith, sc, sk, ti, lt) in
-          let none : refusedIn f l (ruleAt k) s ≡ None = subst (λ x. refusedIn f l (ruleAt k) x ≡ None) (section-back s) (bi (sectionNumber s) low) in
-          clash c s m e (no-offence (offends f l c s m) _ (none-at (refusedAt f l c s) (countIn l s) m (subst (λ x. refusedIn f l x s ≡ None) (sym is) none) h)))
+          let rule : rule_index c ≡ k = omega (arith, nc, nk, tk, rest.0) in
+          let is = same_rule c rule in
+          ⊎_elim
+          (λ (lt : (notice (refusal_of c s m)).section < (notice (refusal_of (rule_at k) (section_at i) n)).section).
+          let low : section_number s < i = omega (arith, sc, sk, ti, lt) in
+          let none : refused_in f l (rule_at k) s ≡ None = subst (λ x. refused_in f l (rule_at k) x ≡ None) (section_back s) (bi (section_number s) low) in
+          clash c s m e (no_offence (offends f l c s m) _ (none_at (refused_at f l c s) (count_in l s) m (subst (λ x. refused_in f l x s ≡ None) (sym is) none) h)))
           (λ last.
-          let sec : sectionNumber s ≡ i = omega (arith, sc, sk, ti, last .0) in
-          let low : m < n = subst (λ x. x < n) (record-is c s m) (subst (λ x. notice (refusalOf c s m) .«record» < x) (record-is (ruleAt k) (sectionAt i) n) (last .1)) in
-          let none = subst (λ x. refusedAt f l (ruleAt k) x m ≡ None) (sym (same-section s sec)) (bn m low) in
-          clash c s m e (no-offence (offends f l c s m) _ (subst (λ x. refusedAt f l x s m ≡ None) (sym is) none)))
-          (rest .1))
+          let sec : section_number s ≡ i = omega (arith, sc, sk, ti, last.0) in
+          let low : m < n = subst (λ x. x < n) (record_is c s m) (subst (λ x. (notice (refusal_of c s m)).«record» < x) (record_is (rule_at k) (section_at i) n) last.1) in
+          let none = subst (λ x. refused_at f l (rule_at k) x m ≡ None) (sym (same_section s sec)) (bn m low) in
+          clash c s m e (no_offence (offends f l c s m) _ (subst (λ x. refused_at f l x s m ≡ None) (sym is) none)))
+          rest.1)
           before
 
-  first-is : (r : Refusal) → formRefusal f l ≡ Some r → First f l r
-  first-is r e =
-      let a = least (λ k. refusedBy f l (ruleAt k)) 6 r e in
-      let b = least (λ i. refusedIn f l (ruleAt (a .at)) (sectionAt i)) 5 r (a .gives) in
-      let c = least (refusedAt f l (ruleAt (a .at)) (sectionAt (b .at))) (countIn l (sectionAt (b .at))) r (b .gives) in
-      let t = taken (offends f l (ruleAt (a .at)) (sectionAt (b .at)) (c .at)) _ r (c .gives) in
-      subst (First f l) (ap (unsome r) (t .1)) (made (a .at) (b .at) (c .at) (a .low) (b .low) (c .low) (t .0) (a .before) (b .before) (c .before))
+  first_is : (r : Refusal) → form_refusal f l ≡ Some r → First f l r
+  first_is r e =
+      let a = least (λ k. refused_by f l (rule_at k)) 6 r e in
+      let b = least (λ i. refused_in f l (rule_at a.at) (section_at i)) 5 r a.gives in
+      let c = least (refused_at f l (rule_at a.at) (section_at b.at)) (count_in l (section_at b.at)) r b.gives in
+      let t = taken (offends f l (rule_at a.at) (section_at b.at) c.at) _ r c.gives in
+      subst (First f l) (ap (unsome r) t.1) (made a.at b.at c.at a.low b.low c.low t.0 a.before b.before c.before)
 
-  right-when : Quiet f l → Right f l
-  right-when q = record {
+  right_when : Quiet f l → Right f l
+  right_when q = record {
     ranges = q Range;
     uses = record {
-      commands = λ n h. not-differ (commandUsed f l n) 1 (or-parts (differ (commandUsed f l n) 1) (commandHigh (commandAt f l n) n) (q Use Commands n h) .0);
-      parts = λ n h. or-parts (differ (commandUsed f l n) 1) (commandHigh (commandAt f l n) n) (q Use Commands n h) .1;
-      expressions = λ n h. not-differ (exprUsed f l n) 1 (or-parts (differ (exprUsed f l n) 1) (exprHigh (expressionAt f l n) n) (q Use Expressions n h) .0);
-      operands = λ n h. or-parts (differ (exprUsed f l n) 1) (exprHigh (expressionAt f l n) n) (q Use Expressions n h) .1;
+      commands = λ n h. not_differ (command_used f l n) 1 (or_parts (differ (command_used f l n) 1) (command_high (command_at f l n) n) (q Use Commands n h)).0;
+      parts = λ n h. (or_parts (differ (command_used f l n) 1) (command_high (command_at f l n) n) (q Use Commands n h)).1;
+      expressions = λ n h. not_differ (expr_used f l n) 1 (or_parts (differ (expr_used f l n) 1) (expr_high (expression_at f l n) n) (q Use Expressions n h)).0;
+      operands = λ n h. (or_parts (differ (expr_used f l n) 1) (expr_high (expression_at f l n) n) (q Use Expressions n h)).1;
     };
-    ordered = λ b c lt h s. not-not (settledAt f l b) (any-false-at (clockedAt f l) c b (second (settledAt f l c) (any (clockedAt f l) c) (q Assignment Blocks c h) s) lt);
+    ordered = λ b c lt h s. not_not (settled_at f l b) (any_false_at (clocked_at f l) c b (second (settled_at f l c) (any (clocked_at f l) c) (q Assignment Blocks c h) s) lt);
     formed = formed f l q;
   }
 
-  pub says : Says f l (formRefusal f l)
-  says = by (formRefusal f l) refl
+  pub says : Says f l (form_refusal f l)
+  says = by (form_refusal f l) refl
     where
-      by : (o : Option Refusal) → formRefusal f l ≡ o → Says f l o
-      by None e = right-when (quiet-when e)
-      by (Some r) e = let x = first-is r e in (x, λ right. true≢false (sym (x .offender) ∙ quiet-back f l right (x .rule) (x .section) (x .place) (x .inside)))
+      by : (o : Option Refusal) → form_refusal f l ≡ o → Says f l o
+      by None e = right_when (quiet_when e)
+      by (Some r) e = let x = first_is r e in (x, λ right. true≢false (sym x.offender ∙ quiet_back f l right x.rule x.section x.place x.inside))
 
 -- a file whose layout stands, refused by a record
-abbrev layoutIn : Layout → Result Layout Refusal → Layout
-layoutIn l (Ok m) = m
-layoutIn l (Err r) = l
+abbrev layout_in : Layout → Result Layout Refusal → Layout
+layout_in l (Ok m) = m
+layout_in l (Err r) = l
 
-pub refused-by : (f : List ℕ) (l : Layout) (r : Refusal) → layoutOf f ≡ Ok l → Says f l (Some r) → Refused f r
-refused-by f l r e x = record {
-  first = inr (l, e, x .0);
-  not-accepted = λ m a. x .1 (subst (Right f) (ap (layoutIn l) (sym (a .layout) ∙ e)) (a .right));
+pub refused_by_first : (f : List ℕ) (l : Layout) (r : Refusal) → layout_of f ≡ Ok l → Says f l (Some r) → Refused f r
+refused_by_first f l r e x = record {
+  first = inr (l, e, x.0);
+  not_accepted = λ m a. x.1 (subst (Right f) (ap (layout_in l) (sym a.layout ∙ e)) a.right);
 }

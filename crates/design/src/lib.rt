@@ -1,15 +1,12 @@
 //! Designs whose form was checked.
-ghost use mathlib.Core.Path.{_≡_};
-ghost use Rattle·std.specs.Results.{Cases};
-ghost use Rattle·std.specs.declared.result.Result.the-variants.{Ok, Err};
-ghost use Rattle·records.specs.Layouts.{layoutOf};
-ghost use Rattle·design·specs.First.{ruleAt, formRefusal, checked, readOf};
-ghost use Rattle·design·specs.Right.{Right, Accepted, Refused, Says};
-use records::Layout;
-use records::layout_of;
+ghost use Rattle.std.specs.Prelude.{◌≡◌, IfOk, Ok, Err, MatchResult};
+ghost use Rattle.records.specs.Layouts.{layout_of};
+ghost use Rattle.design.specs.First.{rule_at, form_refusal, checked, read_of};
+ghost use Rattle.design.specs.Right.{Right, Accepted, Refused, Says};
+
+use records::{Layout, layout_of};
 use refusal::Refusal;
-use rules::Rule;
-use rules::first_by;
+use rules::{Rule, first_by};
 
 /// A design whose form was checked: its file, and where the sections lie.
 #[derive(Drop)]
@@ -20,13 +17,13 @@ pub struct Formed<'a> {
 
 impl<'a> Formed<'a> {
     pub fn file(&self) -> &'a [u8]
-        ensures { λ r. ⌜ now r ≡ now (now (self .entry) .file) ⌝ }
+        ensures { result.now ≡ self.now.file.now }
     {
         self.file
     }
 
     pub fn layout(&self) -> Layout
-        ensures { λ r. ⌜ r ≡ now (self .entry) .layout ⌝ }
+        ensures { result ≡ self.now.layout }
     {
         self.layout
     }
@@ -37,7 +34,7 @@ const RULE_COUNT: u32 = 6;
 
 // The rules by the numbers of their refusals.
 fn rule_at(k: u32) -> Rule
-    ensures { λ r. ⌜ r ≡ ruleAt k ⌝ }
+    ensures { result ≡ rule_at k }
 {
     match k {
         0 => Rule::Range,
@@ -51,8 +48,8 @@ fn rule_at(k: u32) -> Rule
 
 // The first record that breaks any rule.
 fn first_refusal(file: &[u8], l: Layout) -> Option<Refusal>
-    ensures is { λ r. ⌜ r ≡ formRefusal (now (file .entry)) l ⌝ }
-    ensures says { λ r. ⌜ Says (now (file .entry)) l r ⌝ }
+    ensures is { result ≡ form_refusal file.now l }
+    ensures says { Says file.now l result }
 {
     for k in 0..RULE_COUNT {
         match first_by(file, l, rule_at(k)) {
@@ -65,8 +62,8 @@ fn first_refusal(file: &[u8], l: Layout) -> Option<Refusal>
 
 // Refuses a file by its records.
 fn check_form(file: &[u8], l: Layout) -> Result<(), Refusal>
-    ensures is { λ r. ⌜ r ≡ checked (formRefusal (now (file .entry)) l) ⌝ }
-    ensures says { λ r. ⌜ Cases r (λ _. Right (now (file .entry)) l) (λ e. layoutOf (now (file .entry)) ≡ Ok l → Refused (now (file .entry)) e) ⌝ }
+    ensures is { result ≡ checked (form_refusal file.now l) }
+    ensures says { MatchResult result (λ _. Right file.now l) (λ e. layout_of file.now ≡ Ok l → Refused file.now e) }
 {
     match first_refusal(file, l) {
         Some(r) => Err(r),
@@ -76,9 +73,9 @@ fn check_form(file: &[u8], l: Layout) -> Result<(), Refusal>
 
 /// Reads a design and checks its form, or gives the first refusal.
 pub fn read_design(bytes: &[u8]) -> Result<Formed<'_>, Refusal>
-    ensures answer { λ r. ⌜ Cases r (λ d. readOf (now (bytes .entry)) ≡ Ok (d .layout)) (λ e. readOf (now (bytes .entry)) ≡ Err e) ⌝ }
-    ensures exact { λ r. ⌜ Cases r (λ d. Accepted (now (bytes .entry)) (d .layout)) (λ e. Refused (now (bytes .entry)) e) ⌝ }
-    ensures file { λ r. ⌜ Cases r (λ d. now (d .file) ≡ now (bytes .entry)) (λ e. Unit {0}) ⌝ }
+    ensures answer { MatchResult result (λ d. read_of bytes.now ≡ Ok d.layout) (λ e. read_of bytes.now ≡ Err e) }
+    ensures exact { MatchResult result (λ d. Accepted bytes.now d.layout) (λ e. Refused bytes.now e) }
+    ensures file { IfOk result (λ d. d.file.now ≡ bytes.now) }
 {
     let layout = layout_of(bytes)?;
     check_form(bytes, layout)?;

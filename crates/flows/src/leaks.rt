@@ -1,22 +1,17 @@
 //! Assignments that break rule 13.
-ghost use mathlib.Core.List.{List};
-ghost use Rattle·std.specs.Options.{Cases};
-ghost use Rattle·language.specs.Form.{Way};
-ghost use Rattle·language.specs.Typing.{Levelled};
-ghost use Rattle·language.specs.Finite.{Test-13};
-ghost use Rattle·records.specs.Trees.{designOf, exprAt, cmdAt};
-ghost use Rattle·paths.specs.Marks.{Tracks};
-ghost use Rattle·flows·specs.Findings.{Breach, Walked};
+ghost use Rattle.std.specs.Prelude.{List, MatchOption};
+ghost use Rattle.language.specs.Form.{Way};
+ghost use Rattle.language.specs.Typing.{Levelled};
+ghost use Rattle.language.specs.Finite.{Test13};
+ghost use Rattle.records.specs.Trees.{design_of, expr_at, cmd_at};
+ghost use Rattle.paths.specs.Marks.{Tracks};
+ghost use Rattle.flows.specs.Findings.{Breach, Walked};
+
 use crate::offences::find_offence;
 use crate::showing::shown_levels;
 use lattice::Lattice;
-use paths::Path;
-use paths::gathered;
-use paths::shape_of;
-use paths::target_origin;
-use records::Action;
-use records::Layout;
-use records::action_at;
+use paths::{Path, gathered, shape_of, target_origin};
+use records::{Action, Layout, action_at};
 
 /// A command that breaks rule 13, with a level of its flow and of its target.
 #[derive(Clone, Copy)]
@@ -36,9 +31,9 @@ fn check_assignment<L: Lattice>(
     u: u32,
     e: u32,
 ) -> Option<Leak>
-    ensures { λ r. ⌜ ((ways : List Way) → Tracks ways (now (path .entry)) → Levelled (meaning (now (lattice .entry))) (designOf (now (file .entry)) l) → Cases r
-        (Test-13 (meaning (now (lattice .entry))) (designOf (now (file .entry)) l) ways u (exprAt (now (file .entry)) l e))
-        (λ b. Breach (meaning (now (lattice .entry))) (designOf (now (file .entry)) l) b ways u (exprAt (now (file .entry)) l e) n)) ⌝ }
+    ensures { (ways : List Way) → Tracks ways path.now → Levelled (meaning lattice.now) (design_of file.now l) → MatchOption result
+        (Test13 (meaning lattice.now) (design_of file.now l) ways u (expr_at file.now l e))
+        (λ b. Breach (meaning lattice.now) (design_of file.now l) b ways u (expr_at file.now l e) n) }
 {
     let flow = gathered(file, l, e, &path.variables);
     let shape = shape_of(file, l, e);
@@ -64,8 +59,8 @@ pub fn find_leak<L: Lattice>(
     path: &Path,
     n: u32,
 ) -> Option<Leak>
-    ensures { λ r. ⌜ ((ways : List Way) → Tracks ways (now (path .entry)) → Levelled (meaning (now (lattice .entry))) (designOf (now (file .entry)) l)
-        → Walked (meaning (now (lattice .entry))) (designOf (now (file .entry)) l) r ways (cmdAt (now (file .entry)) l n)) ⌝ }
+    ensures { (ways : List Way) → Tracks ways path.now → Levelled (meaning lattice.now) (design_of file.now l)
+        → Walked (meaning lattice.now) (design_of file.now l) result ways (cmd_at file.now l n) }
 {
     match action_at(file, l, n) {
         Action::Idle => None,

@@ -3,7 +3,5 @@ mod leaks;
 mod offences;
 mod showing;
 
-pub use leaks::Leak;
-pub use leaks::find_leak;
-pub use offences::Offence;
-pub use offences::find_offence;
+pub use leaks::{Leak, find_leak};
+pub use offences::{Offence, find_offence};

@@ -1,24 +1,18 @@
 //! One variable of a flow against a target, at the values that are left to them.
-ghost use Prim.Native.Nat.{ℕ, _<_};
-ghost use Rattle·std.specs.Options.{Cases};
-ghost use Rattle·lattice.specs.Meaning.{Below};
-ghost use Rattle·language.specs.Syntax.{Design};
-ghost use Rattle·language.specs.Finite.{Sets, Tries, One, level-at, Under, All-under};
-ghost use Rattle·records.specs.Trees.{designOf};
-ghost use Rattle·paths.specs.Marks.{placeOf, setsOf, flagsOf};
-ghost use Rattle·paths.specs.Trying.{Tabled};
-ghost use Rattle·flows·specs.Findings.{Clash, Offends};
+ghost use Rattle.std.specs.Prelude.{ℕ, ◌<◌, MatchOption};
+ghost use Rattle.lattice.specs.Meaning.{Below};
+ghost use Rattle.language.specs.Syntax.{Design};
+ghost use Rattle.language.specs.Finite.{Sets, Tries, One, level_at, Under, AllUnder};
+ghost use Rattle.records.specs.Trees.{design_of};
+ghost use Rattle.paths.specs.Marks.{place_of, sets_of, flags_of};
+ghost use Rattle.paths.specs.Trying.{Tabled};
+ghost use Rattle.flows.specs.Findings.{Clash, Offends};
+
 use lattice::Lattice;
-use paths::Origin;
-use paths::Trials;
-use paths::ValueSets;
-use paths::VariableSet;
-use paths::are_one;
-use paths::is_possible;
-use paths::label_of;
-use paths::origin_of;
-use paths::trials_at;
-use paths::variable_count;
+use paths::{
+    Origin, Trials, ValueSets, VariableSet, are_one, is_possible, label_of, origin_of, trials_at,
+    variable_count,
+};
 use records::Layout;
 
 /// A variable of a flow, the value that it is looked up at, and the target's, where it is not at or below the target.
@@ -31,11 +25,11 @@ pub struct Offence {
 
 // A value `y` to try at `q` at which the level at `p`, where the value is `x`, is not at or below the level at `q`.
 fn clash_at<L: Lattice>(lattice: &L, p: &Trials, x: u32, q: &Trials) -> Option<u32>
-    requires { ⌜ x < 16 ⌝ }
-    ensures { λ r. ⌜ ((d : Design) (sets : Sets) → Tabled d sets (now (p .entry)) → Tabled d sets (now (q .entry)) → Tries d sets (placeOf (now (p .entry) .origin)) x → Cases r
-        ((y : ℕ) → Tries d sets (placeOf (now (q .entry) .origin)) y → One (placeOf (now (p .entry) .origin)) (placeOf (now (q .entry) .origin)) x y
-        → Below (meaning (now (lattice .entry))) (level-at d (placeOf (now (p .entry) .origin)) x) (level-at d (placeOf (now (q .entry) .origin)) y))
-        (λ y. Clash (meaning (now (lattice .entry))) d sets (placeOf (now (p .entry) .origin)) (placeOf (now (q .entry) .origin)) x y)) ⌝ }
+    requires { x < 16 }
+    ensures { (d : Design) (sets : Sets) → Tabled d sets p.now → Tabled d sets q.now → Tries d sets (place_of p.now.origin) x → MatchOption result
+        ((y : ℕ) → Tries d sets (place_of q.now.origin) y → One (place_of p.now.origin) (place_of q.now.origin) x y
+        → Below (meaning lattice.now) (level_at d (place_of p.now.origin) x) (level_at d (place_of q.now.origin) y))
+        (λ y. Clash (meaning lattice.now) d sets (place_of p.now.origin) (place_of q.now.origin) x y) }
 {
     let from = p.levels[x as usize];
     for y in 0..16 {
@@ -52,9 +46,9 @@ fn clash_at<L: Lattice>(lattice: &L, p: &Trials, x: u32, q: &Trials) -> Option<u
 
 // Values to try at which the level at `p` is not at or below the level at `q`.
 fn clash<L: Lattice>(lattice: &L, p: &Trials, q: &Trials) -> Option<(u32, u32)>
-    ensures { λ r. ⌜ ((d : Design) (sets : Sets) → Tabled d sets (now (p .entry)) → Tabled d sets (now (q .entry)) → Cases r
-        (Under (meaning (now (lattice .entry))) d sets (placeOf (now (p .entry) .origin)) (placeOf (now (q .entry) .origin)))
-        (λ c. Clash (meaning (now (lattice .entry))) d sets (placeOf (now (p .entry) .origin)) (placeOf (now (q .entry) .origin)) (c .0) (c .1))) ⌝ }
+    ensures { (d : Design) (sets : Sets) → Tabled d sets p.now → Tabled d sets q.now → MatchOption result
+        (Under (meaning lattice.now) d sets (place_of p.now.origin) (place_of q.now.origin))
+        (λ c. Clash (meaning lattice.now) d sets (place_of p.now.origin) (place_of q.now.origin) c.0 c.1) }
 {
     for x in 0..16 {
         if p.tried[x as usize] {
@@ -75,9 +69,9 @@ pub fn find_offence<L: Lattice>(
     flow: &VariableSet,
     q: Origin,
 ) -> Option<Offence>
-    ensures { λ r. ⌜ Cases r
-        (All-under (meaning (now (lattice .entry))) (designOf (now (file .entry)) l) (setsOf (now (sets .entry))) (flagsOf (now (flow .entry))) (placeOf q))
-        (λ o. Offends (meaning (now (lattice .entry))) (designOf (now (file .entry)) l) (setsOf (now (sets .entry))) (flagsOf (now (flow .entry))) (placeOf q) o) ⌝ }
+    ensures { MatchOption result
+        (AllUnder (meaning lattice.now) (design_of file.now l) (sets_of sets.now) (flags_of flow.now) (place_of q))
+        (λ o. Offends (meaning lattice.now) (design_of file.now l) (sets_of sets.now) (flags_of flow.now) (place_of q) o) }
 {
     if !is_possible(file, l, sets) {
         return None;

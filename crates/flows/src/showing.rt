@@ -1,27 +1,19 @@
 //! Values that show an offence, and the levels of the flow and of the target at them.
-ghost use mathlib.Core.Path.{_≡_};
-ghost use Prim.Native.Nat.{ℕ, _<_, _^_};
-ghost use Rattle·language.specs.Syntax.{count, var};
-ghost use Rattle·language.specs.Machine.{level};
-ghost use Rattle·language.specs.Typing.{Levelled};
-ghost use Rattle·language.specs.Finite.{May, Possible, target-place};
-ghost use Rattle·records.specs.Trees.{designOf};
-ghost use Rattle·paths.specs.Marks.{shapeOf, placeOf, setsOf, flagsOf};
-ghost use Rattle·flows·specs.Findings.{Offends, Exposes, Suited, Join-below, Looks, valuesOf, filled};
+ghost use Rattle.std.specs.Prelude.{◌≡◌, ℕ, ◌^◌, ◌<◌};
+ghost use Rattle.language.specs.Syntax.{count, var};
+ghost use Rattle.language.specs.Machine.{level};
+ghost use Rattle.language.specs.Typing.{Levelled};
+ghost use Rattle.language.specs.Finite.{May, Possible, target_place};
+ghost use Rattle.records.specs.Trees.{design_of};
+ghost use Rattle.paths.specs.Marks.{shape_of, place_of, sets_of, flags_of};
+ghost use Rattle.flows.specs.Findings.{Offends, Exposes, Suited, JoinBelow, Looks, values_of, filled};
+
 use crate::offences::Offence;
 use lattice::Lattice;
-use paths::Label;
-use paths::Origin;
-use paths::Shape;
-use paths::ValueSets;
-use paths::VariableSet;
-use paths::entry_of;
-use paths::label_of;
-use paths::level_at;
-use paths::may;
-use paths::origin_of;
-use paths::target_origin;
-use paths::variable_count;
+use paths::{
+    Label, Origin, Shape, ValueSets, VariableSet, entry_of, label_of, level_at, may, origin_of,
+    target_origin, variable_count,
+};
 use records::Layout;
 
 // A value for each variable.
@@ -29,8 +21,8 @@ type Values = [u32; 128];
 
 // A value that the sets leave to variable `v`, or 0.
 fn some_value(file: &[u8], l: Layout, sets: &ValueSets, v: u32) -> u32
-    ensures fits { λ r. ⌜ r < 2 ^ var (designOf (now (file .entry)) l) v .width ⌝ }
-    ensures left { λ r. ⌜ ((x : ℕ) → May (designOf (now (file .entry)) l) (setsOf (now (sets .entry))) v x → May (designOf (now (file .entry)) l) (setsOf (now (sets .entry))) v r) ⌝ }
+    ensures fits { result < 2 ^ (var (design_of file.now l) v).width }
+    ensures left { (x : ℕ) → May (design_of file.now l) (sets_of sets.now) v x → May (design_of file.now l) (sets_of sets.now) v result }
 {
     for x in 0..16 {
         if may(file, l, sets, v, x) {
@@ -42,7 +34,7 @@ fn some_value(file: &[u8], l: Layout, sets: &ValueSets, v: u32) -> u32
 
 // A value for each variable, one that the sets leave it.
 fn some_values(file: &[u8], l: Layout, sets: &ValueSets) -> Values
-    ensures { λ r. ⌜ (Possible (designOf (now (file .entry)) l) (setsOf (now (sets .entry))) → Suited (designOf (now (file .entry)) l) (setsOf (now (sets .entry))) (valuesOf r)) ⌝ }
+    ensures { Possible (design_of file.now l) (sets_of sets.now) → Suited (design_of file.now l) (sets_of sets.now) (values_of result) }
 {
     let mut out = [0; 128];
     for v in 0..128u32 {
@@ -53,7 +45,7 @@ fn some_values(file: &[u8], l: Layout, sets: &ValueSets) -> Values
 
 // The values with `x` where the origin looks.
 fn put_there(values: Values, origin: Origin, x: u32) -> Values
-    ensures { λ r. ⌜ (Looks (placeOf origin) → (v : ℕ) → valuesOf r v ≡ filled (placeOf origin) (valuesOf values) x v) ⌝ }
+    ensures { Looks (place_of origin) → (v : ℕ) → values_of result v ≡ filled (place_of origin) (values_of values) x v }
 {
     let mut out = values;
     if let Origin::ValueOf { variable, .. } = origin {
@@ -66,14 +58,14 @@ fn put_there(values: Values, origin: Origin, x: u32) -> Values
 
 // The value of variable `v`; 0 where there is none.
 fn value_at(values: &Values, v: u32) -> u32
-    ensures { λ r. ⌜ r ≡ valuesOf (now (values .entry)) v ⌝ }
+    ensures { result ≡ values_of values.now v }
 {
     if v < 128 { values[v as usize] } else { 0 }
 }
 
 // The level of variable `v` at these values.
 fn level_now(file: &[u8], l: Layout, values: &Values, v: u32) -> u32
-    ensures { λ r. ⌜ r ≡ level (designOf (now (file .entry)) l) (valuesOf (now (values .entry))) v ⌝ }
+    ensures { result ≡ level (design_of file.now l) (values_of values.now) v }
 {
     match label_of(file, l, v) {
         Label::Fixed { level } => level,
@@ -91,7 +83,7 @@ fn flow_level<L: Lattice>(
     values: &Values,
     flow: &VariableSet,
 ) -> u32
-    ensures { λ r. ⌜ (Levelled (meaning (now (lattice .entry))) (designOf (now (file .entry)) l) → Join-below (meaning (now (lattice .entry))) (designOf (now (file .entry)) l) (valuesOf (now (values .entry))) (flagsOf (now (flow .entry))) (count (designOf (now (file .entry)) l)) r) ⌝ }
+    ensures { Levelled (meaning lattice.now) (design_of file.now l) → JoinBelow (meaning lattice.now) (design_of file.now l) (values_of values.now) (flags_of flow.now) (count (design_of file.now l)) result }
 {
     let mut join = lattice.lowest();
     let count = variable_count(file, l);
@@ -114,9 +106,9 @@ pub(crate) fn shown_levels<L: Lattice>(
     shape: Shape,
     o: Offence,
 ) -> (u32, u32)
-    ensures { λ r. ⌜ (Levelled (meaning (now (lattice .entry))) (designOf (now (file .entry)) l)
-        → Offends (meaning (now (lattice .entry))) (designOf (now (file .entry)) l) (setsOf (now (sets .entry))) (flagsOf (now (flow .entry))) (target-place (designOf (now (file .entry)) l) u (shapeOf shape)) o
-        → Exposes (meaning (now (lattice .entry))) (designOf (now (file .entry)) l) (setsOf (now (sets .entry))) (flagsOf (now (flow .entry))) u (shapeOf shape) (r .0) (r .1)) ⌝ }
+    ensures { Levelled (meaning lattice.now) (design_of file.now l)
+        → Offends (meaning lattice.now) (design_of file.now l) (sets_of sets.now) (flags_of flow.now) (target_place (design_of file.now l) u (shape_of shape)) o
+        → Exposes (meaning lattice.now) (design_of file.now l) (sets_of sets.now) (flags_of flow.now) u (shape_of shape) result.0 result.1 }
 {
     let p = origin_of(label_of(file, l, o.variable));
     let q = target_origin(file, l, u, shape);

@@ -1,6 +1,5 @@
 //! What the arguments ask for.
-use std::env;
-use std::io;
+use std::{env, io};
 
 /// A lattice of one kind.
 #[derive(Drop)]
@@ -59,7 +58,7 @@ fn shape_of(words: Vec<String>) -> Option<Shape> {
 }
 
 /// The request, or nothing where the arguments are wrong.
-pub fn request_of(rt: &LibcRuntime) -> io::Result<Option<Request>> {
+pub fn request_of(rt: &HostRuntime) -> io::Result<Option<Request>> {
     let mut words = Vec::new(rt.alloc());
     let mut explain = false;
     for word in env::args(rt)?.skip(1) {

@@ -1,21 +1,16 @@
 //! A refusal in words.
-use listing::CommandText;
-use listing::CommandTextDisplay;
-use listing::Reason;
-use listing::ReasonDisplay;
-use listing::Source;
+use listing::{CommandText, Reason, Source};
 use records::layout_of;
 use refusal::Refusal;
 use std::io;
 
-fn print_command(rt: &LibcRuntime, file: &[u8], command: u32) -> io::Result<()> {
+fn print_command(rt: &HostRuntime, file: &[u8], command: u32) -> io::Result<()> {
     let Ok(layout) = layout_of(file) else {
         return Ok(());
     };
     let source = Source { file, layout };
     let depth = 1;
-    print!(
-        rt,
+    print!(rt;
         "{}",
         CommandText {
             source,
@@ -25,8 +20,8 @@ fn print_command(rt: &LibcRuntime, file: &[u8], command: u32) -> io::Result<()> 
     )
 }
 
-pub fn print_reason(rt: &LibcRuntime, file: &[u8], refusal: Refusal) -> io::Result<()> {
-    println!(rt, "{}", Reason { refusal })?;
+pub fn print_reason(rt: &HostRuntime, file: &[u8], refusal: Refusal) -> io::Result<()> {
+    println!(rt; "{}", Reason { refusal })?;
     match refusal {
         Refusal::FlowTooHigh {
             command,
@@ -34,7 +29,7 @@ pub fn print_reason(rt: &LibcRuntime, file: &[u8], refusal: Refusal) -> io::Resu
             target,
         } => {
             print_command(rt, file, command)?;
-            println!(rt, "  flow: level {flow}; target: level {target}")
+            println!(rt; "  flow: level {flow}; target: level {target}")
         }
         Refusal::ConditionTooHigh { command } => print_command(rt, file, command),
         _ => Ok(()),

@@ -3,26 +3,13 @@ mod arguments;
 mod explaining;
 mod making;
 
-use arguments::Request;
-use arguments::Shape;
-use arguments::request_of;
-use clearance::TableLattice;
+use arguments::{Request, Shape, request_of};
 use design::read_design;
 use explaining::print_reason;
 use judgement::judge;
-use lattice::ChainLattice;
-use lattice::Lattice;
-use lattice::Pair;
-use lattice::PairLattice;
-use lattice::Reversed;
-use lattice::ReversedLattice;
-use lattice::SetsLattice;
-use making::Failure;
-use making::FailureFromIo;
-use making::Made;
-use making::make;
+use lattice::{Lattice, Pair, Reversed};
+use making::{Failure, Made, make};
 use refusal::Refusal;
-use refusal::RefusalDisplay;
 use std::io;
 use std::io::Read;
 
@@ -35,7 +22,7 @@ const USAGE: &str = "usage: judge [--explain] [KIND | pair KIND KIND | reversed 
 /// What is judged, and how it is told.
 #[derive(Clone, Copy)]
 struct Task<'a> {
-    rt: &'a LibcRuntime,
+    rt: &'a HostRuntime,
     file: &'a [u8],
     explain: bool,
 }
@@ -50,9 +37,9 @@ fn print_verdict<L: Lattice>(task: Task<'_>, lattice: &L) -> Result<(), Failure>
     let rt = task.rt;
     let sign = L::SIGN;
     match is_accepted(task.file, lattice) {
-        Ok(()) => println!(rt, "{sign} accepted")?,
+        Ok(()) => println!(rt; "{sign} accepted")?,
         Err(refusal) => {
-            println!(rt, "{sign} {refusal}")?;
+            println!(rt; "{sign} {refusal}")?;
             if task.explain {
                 print_reason(rt, task.file, refusal)?;
             }
@@ -104,9 +91,9 @@ fn judge_shape(task: Task<'_>, shape: Shape) -> Result<(), Failure> {
     }
 }
 
-fn main(rt: LibcRuntime) -> io::Result<()> {
+fn main(rt: HostRuntime) -> io::Result<()> {
     let Some(Request { shape, explain }) = request_of(&rt)? else {
-        eprintln!(rt, "{USAGE}")?;
+        eprintln!(rt; "{USAGE}")?;
         return Err(io::Error::from(io::ErrorKind::InvalidInput));
     };
     let mut file = Vec::new(rt.alloc());
@@ -118,7 +105,7 @@ fn main(rt: LibcRuntime) -> io::Result<()> {
     };
     match judge_shape(task, shape) {
         Ok(()) => Ok(()),
-        Err(Failure::Refused(sign, refusal)) => println!(rt, "{sign} {refusal}"),
+        Err(Failure::Refused(sign, refusal)) => println!(rt; "{sign} {refusal}"),
         Err(Failure::Input(error)) => Err(error),
     }
 }

@@ -1,12 +1,9 @@
 //! The lattices that the arguments name.
 use crate::arguments::Single;
-use clearance::Table;
-use clearance::read_table;
-use lattice::Chain;
-use lattice::Sets;
+use clearance::{Table, read_table};
+use lattice::{Chain, Sets};
 use refusal::Refusal;
-use std::fs;
-use std::io;
+use std::{fs, io};
 
 /// A lattice of one kind.
 #[derive(Clone, Copy)]
@@ -23,7 +20,7 @@ pub enum Failure {
     Input(io::Error),
 }
 
-pub impl From<io::Error> for Failure as FailureFromIo {
+impl From<io::Error> for Failure {
     fn from(error: io::Error) -> Failure {
         Failure::Input(error)
     }
@@ -50,7 +47,7 @@ fn table_of(text: &[u8]) -> Result<Made, Failure> {
     }
 }
 
-pub fn make(rt: &LibcRuntime, single: Single) -> Result<Made, Failure> {
+pub fn make(rt: &HostRuntime, single: Single) -> Result<Made, Failure> {
     match single {
         Single::Chain(n) => chain_of(n),
         Single::Sets(owners) => sets_of(owners),

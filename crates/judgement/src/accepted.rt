@@ -1,10 +1,9 @@
 //! Designs that were judged, and passed.
-ghost use mathlib.Core.Path.{_≡_};
-ghost use Rattle·std.specs.Results.{Cases as ByResult};
-ghost use Rattle·judgement·specs.Verdicts.{Approved, Declined};
+ghost use Rattle.std.specs.Prelude.{◌≡◌, IfOk, MatchResult};
+ghost use Rattle.judgement.specs.Verdicts.{Approved, Declined};
+
 use crate::typing::judge_typing;
-use design::Formed;
-use design::read_design;
+use design::{Formed, read_design};
 use lattice::Lattice;
 use records::Layout;
 use refusal::Refusal;
@@ -18,13 +17,13 @@ pub struct Accepted<'a> {
 
 impl<'a> Accepted<'a> {
     pub fn file(&self) -> &'a [u8]
-        ensures { λ r. ⌜ now r ≡ now (now (self .entry) .file) ⌝ }
+        ensures { result.now ≡ self.now.file.now }
     {
         self.file
     }
 
     pub fn layout(&self) -> Layout
-        ensures { λ r. ⌜ r ≡ now (self .entry) .layout ⌝ }
+        ensures { result ≡ self.now.layout }
     {
         self.layout
     }
@@ -32,7 +31,7 @@ impl<'a> Accepted<'a> {
 
 // Finds the layout of a file, and checks the form and the rules.
 fn judge_file<L: Lattice>(file: &[u8], lattice: &L) -> Result<Layout, Refusal>
-    ensures { λ r. ⌜ ByResult r (Approved (meaning (now (lattice .entry))) (now (file .entry))) (Declined (meaning (now (lattice .entry))) (now (file .entry))) ⌝ }
+    ensures { MatchResult result (Approved (meaning lattice.now) file.now) (Declined (meaning lattice.now) file.now) }
 {
     let layout = read_design(file)?.layout();
     judge_typing(file, layout, lattice)?;
@@ -41,8 +40,8 @@ fn judge_file<L: Lattice>(file: &[u8], lattice: &L) -> Result<Layout, Refusal>
 
 /// Judges a design under a lattice. Its form is checked again, so that nothing is assumed of it.
 pub fn judge<'a, L: Lattice>(formed: &Formed<'a>, lattice: &L) -> Result<Accepted<'a>, Refusal>
-    ensures verdict { λ r. ⌜ ByResult r (λ a. Approved (meaning (now (lattice .entry))) (now (now (formed .entry) .file)) (a .layout)) (Declined (meaning (now (lattice .entry))) (now (now (formed .entry) .file))) ⌝ }
-    ensures file { λ r. ⌜ ByResult r (λ a. now (a .file) ≡ now (now (formed .entry) .file)) (λ _. Unit {0}) ⌝ }
+    ensures verdict { MatchResult result (λ a. Approved (meaning lattice.now) formed.now.file.now a.layout) (Declined (meaning lattice.now) formed.now.file.now) }
+    ensures file { IfOk result (λ a. a.file.now ≡ formed.now.file.now) }
 {
     let file = formed.file();
     let layout = judge_file(file, lattice)?;

@@ -1,21 +1,20 @@
 //! Rule 13 over all blocks.
-ghost use Rattle·std.specs.Results.{Cases as ByResult};
-ghost use Rattle·language.specs.Typing.{Levelled};
-ghost use Rattle·records.specs.Trees.{designOf};
-ghost use Rattle·judgement·specs.Findings.{Blocks-pass, Leaks};
+ghost use Rattle.std.specs.Result.{MatchResult};
+ghost use Rattle.language.specs.Typing.{Levelled};
+ghost use Rattle.records.specs.Trees.{design_of};
+ghost use Rattle.judgement.specs.Findings.{BlocksPass, Leaks};
+
 use flows::find_leak;
 use lattice::Lattice;
 use paths::Path;
-use records::Layout;
-use records::block_at;
-use refusal::Refusal;
-use refusal::Section;
+use records::{Layout, block_at};
+use refusal::{Refusal, Section};
 
 /// Refuses a design with an assignment that breaks rule 13.
 pub(crate) fn check_flows<L: Lattice>(file: &[u8], l: Layout, lattice: &L) -> Result<(), Refusal>
-    ensures { λ r. ⌜ (Levelled (meaning (now (lattice .entry))) (designOf (now (file .entry)) l) → ByResult r
-        (λ _. Blocks-pass (meaning (now (lattice .entry))) (now (file .entry)) l)
-        (Leaks (meaning (now (lattice .entry))) (now (file .entry)) l)) ⌝ }
+    ensures { Levelled (meaning lattice.now) (design_of file.now l) → MatchResult result
+        (λ _. BlocksPass (meaning lattice.now) file.now l)
+        (Leaks (meaning lattice.now) file.now l) }
 {
     let start = Path::start();
     for b in 0..l.count(Section::Blocks) {

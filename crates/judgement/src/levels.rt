@@ -1,30 +1,21 @@
 //! Rules 11 and 12: every label is a level, and a selector's is at or below those that it looks up.
-ghost use Prim.Native.Nat.{ℕ, _<_, _^_};
-ghost use Rattle·std.specs.Orderings.{Decides};
-ghost use Rattle·std.specs.Results.{Cases as ByResult};
-ghost use Rattle·lattice.specs.Meaning.{Below};
-ghost use Rattle·language.specs.Syntax.{entry};
-ghost use Rattle·language.specs.Typing.{Table-levels, Label-level};
-ghost use Rattle·language.specs.Finite.{Test-12};
-ghost use Rattle·language.specs.Offences.{First};
-ghost use Rattle·records.specs.Trees.{designOf};
-ghost use Rattle·judgement·specs.Findings.{Tables-fine, Labels-fine, Tests-12, Finds, no-table, no-label, too-high};
+ghost use Rattle.std.specs.Prelude.{ℕ, ◌^◌, ◌<◌, Decides, MatchResult};
+ghost use Rattle.lattice.specs.Meaning.{Below};
+ghost use Rattle.language.specs.Syntax.{entry};
+ghost use Rattle.language.specs.Typing.{TableLevels, LabelLevel};
+ghost use Rattle.language.specs.Finite.{Test12};
+ghost use Rattle.language.specs.Offences.{First};
+ghost use Rattle.records.specs.Trees.{design_of};
+ghost use Rattle.judgement.specs.Findings.{TablesFine, LabelsFine, Tests12, Finds, no_table, no_label, too_high};
+
 use lattice::Lattice;
-use paths::Label;
-use paths::entry_of;
-use paths::fits_width;
-use paths::label_of;
-use paths::table_count;
-use paths::variable_count;
-use paths::width_of;
+use paths::{Label, entry_of, fits_width, label_of, table_count, variable_count, width_of};
 use records::Layout;
-use refusal::Place;
-use refusal::Refusal;
-use refusal::Section;
+use refusal::{Place, Refusal, Section};
 
 // Whether every entry of table `t` is a level.
 fn is_table_fine<L: Lattice>(file: &[u8], l: Layout, lattice: &L, t: u32) -> bool
-    ensures { λ r. ⌜ Decides r (Table-levels (meaning (now (lattice .entry))) (designOf (now (file .entry)) l) t) ⌝ }
+    ensures { Decides result (TableLevels (meaning lattice.now) (design_of file.now l) t) }
 {
     let count = lattice.count();
     for i in 0..16 {
@@ -37,7 +28,7 @@ fn is_table_fine<L: Lattice>(file: &[u8], l: Layout, lattice: &L, t: u32) -> boo
 
 // Whether the label of variable `v`, where it is fixed, is a level.
 fn is_label_fine<L: Lattice>(file: &[u8], l: Layout, lattice: &L, v: u32) -> bool
-    ensures { λ r. ⌜ Decides r (Label-level (meaning (now (lattice .entry))) (designOf (now (file .entry)) l) v) ⌝ }
+    ensures { Decides result (LabelLevel (meaning lattice.now) (design_of file.now l) v) }
 {
     match label_of(file, l, v) {
         Label::Fixed { level } => level < lattice.count(),
@@ -47,8 +38,8 @@ fn is_label_fine<L: Lattice>(file: &[u8], l: Layout, lattice: &L, v: u32) -> boo
 
 /// Refuses the first table that has an entry which is no level.
 pub(crate) fn check_tables<L: Lattice>(file: &[u8], l: Layout, lattice: &L) -> Result<(), Refusal>
-    ensures { λ r. ⌜ ByResult r (λ _. Tables-fine (meaning (now (lattice .entry))) (designOf (now (file .entry)) l))
-        (Finds no-table (First (Table-levels (meaning (now (lattice .entry))) (designOf (now (file .entry)) l)))) ⌝ }
+    ensures { MatchResult result (λ _. TablesFine (meaning lattice.now) (design_of file.now l))
+        (Finds no_table (First (TableLevels (meaning lattice.now) (design_of file.now l)))) }
 {
     let count = table_count(file, l);
     for t in 0..count {
@@ -66,8 +57,8 @@ pub(crate) fn check_tables<L: Lattice>(file: &[u8], l: Layout, lattice: &L) -> R
 
 /// Refuses the first variable whose fixed label is no level.
 pub(crate) fn check_labels<L: Lattice>(file: &[u8], l: Layout, lattice: &L) -> Result<(), Refusal>
-    ensures { λ r. ⌜ ByResult r (λ _. Labels-fine (meaning (now (lattice .entry))) (designOf (now (file .entry)) l))
-        (Finds no-label (First (Label-level (meaning (now (lattice .entry))) (designOf (now (file .entry)) l)))) ⌝ }
+    ensures { MatchResult result (λ _. LabelsFine (meaning lattice.now) (design_of file.now l))
+        (Finds no_label (First (LabelLevel (meaning lattice.now) (design_of file.now l)))) }
 {
     let count = variable_count(file, l);
     for v in 0..count {
@@ -92,7 +83,7 @@ fn is_under_entries<L: Lattice>(
     t: u32,
     width: u32,
 ) -> bool
-    ensures { λ r. ⌜ Decides r ((x : ℕ) → x < 16 → x < 2 ^ width → Below (meaning (now (lattice .entry))) k (entry (designOf (now (file .entry)) l) t x)) ⌝ }
+    ensures { Decides result ((x : ℕ) → x < 16 → x < 2 ^ width → Below (meaning lattice.now) k (entry (design_of file.now l) t x)) }
 {
     for x in 0..16 {
         if fits_width(x, width) {
@@ -106,7 +97,7 @@ fn is_under_entries<L: Lattice>(
 
 // Whether the selector of variable `v` keeps to rule 12.
 fn is_selector_fine<L: Lattice>(file: &[u8], l: Layout, lattice: &L, v: u32) -> bool
-    ensures { λ r. ⌜ Decides r (Test-12 (meaning (now (lattice .entry))) (designOf (now (file .entry)) l) v) ⌝ }
+    ensures { Decides result (Test12 (meaning lattice.now) (design_of file.now l) v) }
 {
     match label_of(file, l, v) {
         Label::Fixed { .. } => true,
@@ -125,8 +116,8 @@ pub(crate) fn check_selectors<L: Lattice>(
     l: Layout,
     lattice: &L,
 ) -> Result<(), Refusal>
-    ensures { λ r. ⌜ ByResult r (λ _. Tests-12 (meaning (now (lattice .entry))) (designOf (now (file .entry)) l))
-        (Finds too-high (First (Test-12 (meaning (now (lattice .entry))) (designOf (now (file .entry)) l)))) ⌝ }
+    ensures { MatchResult result (λ _. Tests12 (meaning lattice.now) (design_of file.now l))
+        (Finds too_high (First (Test12 (meaning lattice.now) (design_of file.now l)))) }
 {
     let count = variable_count(file, l);
     for v in 0..count {

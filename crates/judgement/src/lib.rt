@@ -5,5 +5,4 @@ mod levels;
 mod staying;
 mod typing;
 
-pub use accepted::Accepted;
-pub use accepted::judge;
+pub use accepted::{Accepted, judge};

@@ -1,33 +1,22 @@
 //! Rule 14: a register that is its own selector keeps no secret by not being assigned.
-ghost use mathlib.Core.Path.{_≡_};
-ghost use mathlib.Core.Bool.{not};
-ghost use mathlib.Core.List.{List};
-ghost use Rattle·std.specs.Results.{Cases as ByResult};
-ghost use Rattle·language.specs.Syntax.{Expr, assign, together};
-ghost use Rattle·language.specs.Form.{Way, Every, always};
-ghost use Rattle·language.specs.Typing.{Anything};
-ghost use Rattle·language.specs.Finite.{Test-14};
-ghost use Rattle·records.specs.Trees.{designOf, cmdAt, isSettled};
-ghost use Rattle·paths.specs.Marks.{Tracks};
-ghost use Rattle·judgement·specs.Findings.{lowerOf, Stayed, Stayed-in, Stayed-all, Finds, condition-high, Lowest-14};
+ghost use Rattle.std.specs.Prelude.{◌≡◌, not, List, MatchResult};
+ghost use Rattle.language.specs.Syntax.{Expr, assign, together};
+ghost use Rattle.language.specs.Form.{Way, Every, always};
+ghost use Rattle.language.specs.Typing.{Anything};
+ghost use Rattle.language.specs.Finite.{Test14};
+ghost use Rattle.records.specs.Trees.{design_of, cmd_at, is_settled};
+ghost use Rattle.paths.specs.Marks.{Tracks};
+ghost use Rattle.judgement.specs.Findings.{lower_of, Stayed, StayedIn, StayedAll, Finds, condition_high, Lowest14};
+
 use flows::find_offence;
 use lattice::Lattice;
-use paths::Label;
-use paths::Origin;
-use paths::Path;
-use paths::always_assigns;
-use paths::label_of;
-use records::Action;
-use records::BlockKind;
-use records::Layout;
-use records::action_at;
-use records::block_at;
-use refusal::Refusal;
-use refusal::Section;
+use paths::{Label, Origin, Path, always_assigns, label_of};
+use records::{Action, BlockKind, Layout, action_at, block_at};
+use refusal::{Refusal, Section};
 
 // Of two records, the lower.
 fn lower(a: Option<u32>, b: Option<u32>) -> Option<u32>
-    ensures { λ r. ⌜ r ≡ lowerOf a b ⌝ }
+    ensures { result ≡ lower_of a b }
 {
     match a {
         None => b,
@@ -40,7 +29,7 @@ fn lower(a: Option<u32>, b: Option<u32>) -> Option<u32>
 
 // Whether a block is clocked.
 fn is_clocked(kind: BlockKind) -> bool
-    ensures { λ r. ⌜ r ≡ not (isSettled kind) ⌝ }
+    ensures { result ≡ not (is_settled kind) }
 {
     match kind {
         BlockKind::Settled => false,
@@ -50,7 +39,7 @@ fn is_clocked(kind: BlockKind) -> bool
 
 // Whether the clocked blocks assign `v` on every path.
 fn always_clocked(file: &[u8], l: Layout, v: u32) -> bool
-    ensures { λ r. ⌜ r ≡ always (together (designOf (now (file .entry)) l .clocked)) v ⌝ }
+    ensures { result ≡ always (together (design_of file.now l).clocked) v }
 {
     for b in 0..l.count(Section::Blocks) {
         let block = block_at(file, l, b);
@@ -72,7 +61,7 @@ fn check_assignment<L: Lattice>(
     n: u32,
     u: u32,
 ) -> Option<u32>
-    ensures { λ r. ⌜ ((ways : List Way) → Tracks ways (now (path .entry)) → (e : Expr) → Stayed (meaning (now (lattice .entry))) (designOf (now (file .entry)) l) ways (assign u e n) r) ⌝ }
+    ensures { (ways : List Way) → Tracks ways path.now → (e : Expr) → Stayed (meaning lattice.now) (design_of file.now l) ways (assign u e n) result }
 {
     match label_of(file, l, u) {
         Label::Fixed { .. } => None,
@@ -94,7 +83,7 @@ fn check_assignment<L: Lattice>(
 
 // The lowest assignment in command `n` that breaks rule 14.
 fn lowest_in<L: Lattice>(file: &[u8], l: Layout, lattice: &L, path: &Path, n: u32) -> Option<u32>
-    ensures { λ r. ⌜ ((ways : List Way) → Tracks ways (now (path .entry)) → Stayed (meaning (now (lattice .entry))) (designOf (now (file .entry)) l) ways (cmdAt (now (file .entry)) l n) r) ⌝ }
+    ensures { (ways : List Way) → Tracks ways path.now → Stayed (meaning lattice.now) (design_of file.now l) ways (cmd_at file.now l n) result }
 {
     match action_at(file, l, n) {
         Action::Idle => None,
@@ -118,7 +107,7 @@ fn lowest_in<L: Lattice>(file: &[u8], l: Layout, lattice: &L, path: &Path, n: u3
 
 // The same in block `b`, if it is clocked.
 fn lowest_in_block<L: Lattice>(file: &[u8], l: Layout, lattice: &L, b: u32) -> Option<u32>
-    ensures { λ r. ⌜ Stayed-in (meaning (now (lattice .entry))) (now (file .entry)) l b r ⌝ }
+    ensures { StayedIn (meaning lattice.now) file.now l b result }
 {
     let block = block_at(file, l, b);
     if !is_clocked(block.kind) {
@@ -129,7 +118,7 @@ fn lowest_in_block<L: Lattice>(file: &[u8], l: Layout, lattice: &L, b: u32) -> O
 
 // The same in all clocked blocks.
 fn lowest<L: Lattice>(file: &[u8], l: Layout, lattice: &L) -> Option<u32>
-    ensures { λ r. ⌜ Stayed-all (meaning (now (lattice .entry))) (designOf (now (file .entry)) l) r ⌝ }
+    ensures { StayedAll (meaning lattice.now) (design_of file.now l) result }
 {
     let mut found = None;
     for b in 0..l.count(Section::Blocks) {
@@ -140,8 +129,8 @@ fn lowest<L: Lattice>(file: &[u8], l: Layout, lattice: &L) -> Option<u32>
 
 /// Refuses the first assignment that breaks rule 14.
 pub(crate) fn check_stays<L: Lattice>(file: &[u8], l: Layout, lattice: &L) -> Result<(), Refusal>
-    ensures { λ r. ⌜ ByResult r (λ _. Every Anything (Test-14 (meaning (now (lattice .entry))) (designOf (now (file .entry)) l)) (designOf (now (file .entry)) l .clocked))
-        (Finds condition-high (Lowest-14 (meaning (now (lattice .entry))) (designOf (now (file .entry)) l))) ⌝ }
+    ensures { MatchResult result (λ _. Every Anything (Test14 (meaning lattice.now) (design_of file.now l)) (design_of file.now l).clocked)
+        (Finds condition_high (Lowest14 (meaning lattice.now) (design_of file.now l))) }
 {
     match lowest(file, l, lattice) {
         None => Ok(()),

@@ -1,12 +1,11 @@
 //! Rules 11 to 14, in this order.
-ghost use Rattle·std.specs.Results.{Cases as ByResult};
-ghost use Rattle·language.specs.Form.{Formed};
-ghost use Rattle·records.specs.Trees.{designOf};
-ghost use Rattle·judgement·specs.Verdicts.{Accepts, Rejects};
+ghost use Rattle.std.specs.Result.{MatchResult};
+ghost use Rattle.language.specs.Form.{Formed};
+ghost use Rattle.records.specs.Trees.{design_of};
+ghost use Rattle.judgement.specs.Verdicts.{Accepts, Rejects};
+
 use crate::flowing::check_flows;
-use crate::levels::check_labels;
-use crate::levels::check_selectors;
-use crate::levels::check_tables;
+use crate::levels::{check_labels, check_selectors, check_tables};
 use crate::staying::check_stays;
 use lattice::Lattice;
 use records::Layout;
@@ -14,9 +13,9 @@ use refusal::Refusal;
 
 /// Checks the typing rules of a formed design.
 pub(crate) fn judge_typing<L: Lattice>(file: &[u8], l: Layout, lattice: &L) -> Result<(), Refusal>
-    ensures { λ r. ⌜ (Formed (designOf (now (file .entry)) l) → ByResult r
-        (λ _. Accepts (meaning (now (lattice .entry))) (designOf (now (file .entry)) l))
-        (Rejects (meaning (now (lattice .entry))) (designOf (now (file .entry)) l))) ⌝ }
+    ensures { Formed (design_of file.now l) → MatchResult result
+        (λ _. Accepts (meaning lattice.now) (design_of file.now l))
+        (Rejects (meaning lattice.now) (design_of file.now l)) }
 {
     check_tables(file, l, lattice)?;
     check_labels(file, l, lattice)?;

@@ -5,15 +5,10 @@
 --    two assignments of one variable stand in opposite branches of some choice.
 -- 4. A wire is read only in blocks after its own.
 -- 5. A selector is narrow and has a fixed label, unless it is the labelled variable itself; and it is of a fitting kind.
-use mathlib.Core.Path.{_≡_}
-use mathlib.Core.Logic.{_⊎_, _≢_}
-use mathlib.Core.Bool.{Bool, true, false, _&&_, _||_}
-use mathlib.Core.List.{List, [], _∷_}
-use Prim.Native.Nat.{ℕ, _+_, _^_, _<_, _≤_}
-use lib.Dec.{eqb}
-use Rattle·lattice.specs.Meaning.{All}
-use Rattle·language·specs.Syntax.{Op, Expr, Cmd, Design, and, or, xor, sum, difference, equals, less, constant, variable, complement, binary, shift-left, shift-right, part, above, choose, idle, seq, choice, assign, port, register, fixed, looked-up, var, width, vars, together}
-use Rattle·language·specs.Machine.{inside, held}
+use Rattle.std.specs.Prelude.{◌≡◌, ℕ, ◌+◌, ◌^◌, ◌<◌, ◌≤◌, Bool, true, false, ◌&&◌, ◌||◌, ◌≢◌, ◌⊎◌, List, [], ◌∷◌, ◌==◌}
+use Rattle.lattice.specs.Meaning.{All}
+use Rattle.language.specs.Syntax.{Op, Expr, Cmd, Design, and, or, xor, sum, difference, equals, less, constant, variable, complement, binary, shift_left, shift-right, part, above, choose, idle, seq, choice, assign, port, register, fixed, looked_up, var, width, vars, together}
+use Rattle.language.specs.Machine.{inside, held}
 
 -- ---- walks over commands
 
@@ -37,13 +32,13 @@ abbrev pub assigns : Cmd → ℕ → Bool
 assigns idle v = false
 assigns (seq a b) v = assigns a v || assigns b v
 assigns (choice e a b) v = assigns a v || assigns b v
-assigns (assign u e k) v = eqb u v
+assigns (assign u e k) v = u == v
 
 abbrev pub always : Cmd → ℕ → Bool
 always idle v = false
 always (seq a b) v = always a v || always b v
 always (choice e a b) v = always a v && always b v
-always (assign u e k) v = eqb u v
+always (assign u e k) v = u == v
 
 -- two assignments of one variable stand in opposite branches of some choice: no two parts of a sequence have one each
 abbrev pub Apart : Cmd → Type 0
@@ -55,21 +50,21 @@ Apart (assign u e k) = Unit
 -- ---- widths
 
 -- the width of an operation on two parts of the width w
-abbrev pub of-op : Op → ℕ → ℕ
-of-op and w = w
-of-op or w = w
-of-op xor w = w
-of-op sum w = w
-of-op difference w = w
-of-op equals w = 1
-of-op less w = 1
+abbrev pub of_op : Op → ℕ → ℕ
+of_op and w = w
+of_op or w = w
+of_op xor w = w
+of_op sum w = w
+of_op difference w = w
+of_op equals w = 1
+of_op less w = 1
 
 abbrev pub Sized : Design → Expr → Type 0
 Sized d (constant w n) = n < 2 ^ w
-Sized d (variable w v k) = w ≡ var d v .width
+Sized d (variable w v k) = w ≡ (var d v).width
 Sized d (complement w a) = Sized d a × (width a ≡ w)
-Sized d (binary w o a b) = Sized d a × Sized d b × (width a ≡ width b) × (w ≡ of-op o (width a))
-Sized d (shift-left w a n) = Sized d a × (width a ≡ w) × (n < w)
+Sized d (binary w o a b) = Sized d a × Sized d b × (width a ≡ width b) × (w ≡ of_op o (width a))
+Sized d (shift_left w a n) = Sized d a × (width a ≡ w) × (n < w)
 Sized d (shift-right w a n) = Sized d a × (width a ≡ w) × (n < w)
 Sized d (part w n a) = Sized d a × (n + w ≤ width a)
 Sized d (above w a b) = Sized d a × Sized d b × (w ≡ width a + width b)
@@ -87,11 +82,11 @@ pub record Reads (d : Design) (known : ℕ → Bool) (w : ℕ) (e : Expr) : Type
 -- it reads known variables (4); its target is not known, so a wire (2) and of no earlier block (3), and is assigned on every path (3);
 -- the target's selector is known, or is the target (5)
 pub record Settles (d : Design) (known : ℕ → Bool) (c : Cmd) (u : ℕ) (e : Expr) : Type 0 where
-  pub source : Reads d known (var d u .width) e
+  pub source : Reads d known (var d u).width e
   pub target : inside d u ≡ true
   pub first : known u ≡ false
   pub all : always c u ≡ true
-  pub selector : (t s : ℕ) → var d u .label ≡ looked-up t s → (s ≡ u) ⊎ (known s ≡ true)
+  pub selector : (t s : ℕ) → (var d u).label ≡ looked_up t s → (s ≡ u) ⊎ (known s ≡ true)
 
 -- the settled blocks in order; after the last one every variable is known, so every wire is assigned (3)
 abbrev pub Settling : Design → (ℕ → Bool) → List Cmd → Type 0
@@ -101,22 +96,22 @@ Settling d known (c ∷ cs) =
 
 -- an assignment in a clocked block: it may read every variable, and its target is a register (2)
 pub record Clocks (d : Design) (u : ℕ) (e : Expr) : Type 0 where
-  pub source : Reads d (inside d) (var d u .width) e
-  pub target : var d u .kind ≡ register
+  pub source : Reads d (inside d) (var d u).width e
+  pub target : (var d u).kind ≡ register
 
 -- ---- selectors
 
 -- s may be the selector of v (5); of a wire's selector `Settles` says the rest
 pub record Selects (d : Design) (v s : ℕ) : Type 0 where
   pub names : inside d s ≡ true
-  pub narrow : var d s .width ≤ 4
-  pub own : (s ≡ v) ⊎ ((l : ℕ) × (var d s .label ≡ fixed l))
-  pub of-port : var d v .kind ≡ port → (s ≢ v) × (held d s ≡ true)
-  pub of-register : var d v .kind ≡ register → held d s ≡ true
+  pub narrow : (var d s).width ≤ 4
+  pub own : (s ≡ v) ⊎ ((l : ℕ) × ((var d s).label ≡ fixed l))
+  pub of_port : (var d v).kind ≡ port → (s ≢ v) × (held d s ≡ true)
+  pub of_register : (var d v).kind ≡ register → held d s ≡ true
 
 pub record Formed (d : Design) : Type 0 where
-  pub resets : (v : ℕ) → var d v .reset < 2 ^ var d v .width
-  pub settling : Settling d (held d) (d .settled)
-  pub clocking : Every (Reads d (inside d) 1) (λ path. Clocks d) (d .clocked)
-  pub apart : Apart (together (d .clocked))
-  pub selectors : (v t s : ℕ) → var d v .label ≡ looked-up t s → Selects d v s
+  pub resets : (v : ℕ) → (var d v).reset < 2 ^ (var d v).width
+  pub settling : Settling d (held d) d.settled
+  pub clocking : Every (Reads d (inside d) 1) (λ path. Clocks d) d.clocked
+  pub apart : Apart (together d.clocked)
+  pub selectors : (v t s : ℕ) → (var d v).label ≡ looked_up t s → Selects d v s

@@ -1,22 +1,17 @@
 -- What a watcher can learn from a session, and what another can confirm.
-use mathlib.Core.Path.{_≡_}
-use mathlib.Core.Logic.{_≢_}
-use mathlib.Core.Bool.{Bool, true, false, cond, _&&_}
-use mathlib.Core.List.{List, [], _∷_}
-use Prim.Native.Nat.{ℕ}
-use Rattle·std.specs.declared.result.Result.the-variants.{Ok, Err}
-use Rattle·refusal.specs.declared.Refusal.{Refusal}
-use Rattle·refusal.specs.declared.Refusal.the-variants.{NoValue}
-use Rattle·lattice.specs.Meaning.{Meaning, Below, Laws}
-use Rattle·language·specs.Syntax.{Design}
-use Rattle·language·specs.Machine.{Valuation, level, Call, drive, clock, reset, read, driven, accepts, step, run, opening, answer}
-use Rattle·language·specs.Form.{Formed}
-use Rattle·language·specs.Typing.{Typed}
+use Rattle.std.specs.Prelude.{◌≡◌, ℕ, Bool, true, false, cond, ◌&&◌, ◌≢◌, List, [], ◌∷◌, Ok, Err}
+use Rattle.refusal.specs.declared.Refusal.{Refusal}
+use Rattle.refusal.specs.declared.Refusal.TheVariants.{NoValue}
+use Rattle.lattice.specs.Meaning.{Meaning, Below, Laws}
+use Rattle.language.specs.Syntax.{Design}
+use Rattle.language.specs.Machine.{Valuation, level, Call, drive, clock, reset, read, driven, accepts, step, run, opening, answer}
+use Rattle.language.specs.Form.{Formed}
+use Rattle.language.specs.Typing.{Typed}
 
 -- does a call stay in the list of a watcher at w? Reads go, and so do drives that were refused,
 -- or whose port had just before a level not at or below the watcher's.
 abbrev pub stays : Meaning → Design → ℕ → Valuation → Call → Bool
-stays m d w σ (drive v x) = accepts d v x && m .below (level d σ v) w
+stays m d w σ (drive v x) = accepts d v x && m.below (level d σ v) w
 stays m d w σ clock = true
 stays m d w σ reset = true
 stays m d w σ (read k a v) = false
@@ -30,7 +25,7 @@ strike m d w σ (c ∷ cs) = cond (stays m d w σ c) (c ∷ strike m d w (step d
 pub record Strikes (m : Meaning) (d : Design) (w : ℕ) (σ : Valuation) (cs : List Call) : Type 0 where
   pub reads : (k : Meaning) (a v : ℕ) → strike m d w σ (read k a v ∷ cs) ≡ strike m d w σ cs
   pub refused : (v x : ℕ) (f : Refusal) → driven d v x ≡ Err f → strike m d w σ (drive v x ∷ cs) ≡ strike m d w σ cs
-  pub hidden : (v x : ℕ) → m .below (level d σ v) w ≡ false → strike m d w σ (drive v x ∷ cs) ≡ strike m d w (step d σ (drive v x)) cs
+  pub hidden : (v x : ℕ) → m.below (level d σ v) w ≡ false → strike m d w σ (drive v x ∷ cs) ≡ strike m d w (step d σ (drive v x)) cs
   pub seen : (v x : ℕ) → driven d v x ≡ Ok tt → Below m (level d σ v) w
       → strike m d w σ (drive v x ∷ cs) ≡ drive v x ∷ strike m d w (step d σ (drive v x)) cs
   pub clocks : strike m d w σ (clock ∷ cs) ≡ clock ∷ strike m d w (step d σ clock) cs
@@ -56,5 +51,5 @@ abbrev pub Noninterference : Type 0
 Noninterference = (m : Meaning) (d : Design) → Laws m → Formed d → Typed m d → Secure m d
 
 -- no read of a formed design finds a wire without a value
-abbrev pub Wires-have-values : Type 0
-Wires-have-values = (d : Design) → Formed d → (m : Meaning) (σ : Valuation) (w v : ℕ) → answer m d σ w v ≢ Err (NoValue v)
+abbrev pub WiresHaveValues : Type 0
+WiresHaveValues = (d : Design) → Formed d → (m : Meaning) (σ : Valuation) (w v : ℕ) → answer m d σ w v ≢ Err (NoValue v)

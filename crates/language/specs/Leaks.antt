@@ -1,16 +1,12 @@
 -- Five designs that leak. Each would be accepted, or be safe, if one rule were weaker in one point; so each rule is needed.
-use mathlib.Core.Path.{_≡_}
-use mathlib.Core.Logic.{_↔_}
-use mathlib.Core.Bool.{cond}
-use mathlib.Core.List.{List, [], _∷_, map}
-use Prim.Native.Nat.{ℕ, _^_, _<_}
-use Rattle·lattice.specs.Kinds.{chain}
-use Rattle·lattice.specs.Meaning.{Meaning, Below, Laws, Joined}
-use Rattle·language·specs.Syntax.{Expr, Cmd, Design, constant, variable, idle, seq, choice, assign, port, register, fixed, looked-up, var, together}
-use Rattle·language·specs.Machine.{Valuation, put, after, values, level, inside, held, opening, Call, drive, clock, reset, read, accepts, answer}
-use Rattle·language·specs.Form.{Way, Every, Apart, Reads, Settling, Clocks, Selects, Formed}
-use Rattle·language·specs.Typing.{Fits, Allowed, sources, Coming, shape, Flows, Stays, Reaches, Table-levels, Label-level, Anything, Typed}
-use Rattle·language·specs.Guarantee.{stays, Secure}
+use Rattle.std.specs.Prelude.{◌≡◌, ℕ, ◌^◌, ◌<◌, cond, ◌↔◌, List, [], ◌∷◌, map}
+use Rattle.lattice.specs.Kinds.{chain}
+use Rattle.lattice.specs.Meaning.{Meaning, Below, Laws, Joined}
+use Rattle.language.specs.Syntax.{Expr, Cmd, Design, constant, variable, idle, seq, choice, assign, port, register, fixed, looked_up, var, together}
+use Rattle.language.specs.Machine.{Valuation, put, after, values, level, inside, held, opening, Call, drive, clock, reset, read, accepts, answer}
+use Rattle.language.specs.Form.{Way, Every, Apart, Reads, Settling, Clocks, Selects, Formed}
+use Rattle.language.specs.Typing.{Fits, Allowed, sources, Coming, shape, Flows, Stays, Reaches, TableLevels, LabelLevel, Anything, Typed}
+use Rattle.language.specs.Guarantee.{stays, Secure}
 
 -- the chain of two levels: 0 is public, 1 is secret
 abbrev pub two : Meaning
@@ -20,71 +16,71 @@ two = chain 2
 
 -- the rules of form and typing, four of them as the caller says
 pub record Rules (d : Design) (apart entries : Type 0) (F S : List Way → ℕ → Expr → Type 0) : Type 0 where
-  pub resets : (v : ℕ) → var d v .reset < 2 ^ var d v .width
-  pub settling : Settling d (held d) (d .settled)
-  pub clocking : Every (Reads d (inside d) 1) (λ path. Clocks d) (d .clocked)
+  pub resets : (v : ℕ) → (var d v).reset < 2 ^ (var d v).width
+  pub settling : Settling d (held d) d.settled
+  pub clocking : Every (Reads d (inside d) 1) (λ path. Clocks d) d.clocked
   pub separate : apart
-  pub selectors : (v t s : ℕ) → var d v .label ≡ looked-up t s → Selects d v s
+  pub selectors : (v t s : ℕ) → (var d v).label ≡ looked_up t s → Selects d v s
   pub levels : entries
-  pub labels : (v : ℕ) → Label-level two d v
+  pub labels : (v : ℕ) → LabelLevel two d v
   pub reaches : (v : ℕ) → Reaches two d v
-  pub settled-flows : Every Anything F (d .settled)
-  pub clocked-flows : Every Anything F (d .clocked)
-  pub staying : Every Anything S (d .clocked)
+  pub settled_flows : Every Anything F d.settled
+  pub clocked_flows : Every Anything F d.clocked
+  pub staying : Every Anything S d.clocked
 
 abbrev pub Separate : Design → Type 0
-Separate d = Apart (together (d .clocked))
+Separate d = Apart (together d.clocked)
 
 abbrev pub Entries : Design → Type 0
-Entries d = (t : ℕ) → Table-levels two d t
+Entries d = (t : ℕ) → TableLevels two d t
 
-abbrev pub All-rules : Design → Type 0
-All-rules d = Rules d (Separate d) (Entries d) (Flows two d) (Stays two d)
+abbrev pub AllRules : Design → Type 0
+AllRules d = Rules d (Separate d) (Entries d) (Flows two d) (Stays two d)
 
 -- 13 without the conditions around
-abbrev pub Bare-flows : Design → List Way → ℕ → Expr → Type 0
-Bare-flows d path u e =
+abbrev pub BareFlows : Design → List Way → ℕ → Expr → Type 0
+BareFlows d path u e =
     (ρ : Valuation) → Fits d ρ → Allowed d path ρ
-    → (x : ℕ) → Coming ρ (var d u .width) (shape e) x
+    → (x : ℕ) → Coming ρ (var d u).width (shape e) x
     → (j : ℕ) → Joined two (map (level d ρ) (sources e)) j
     → Below two j (level d (put ρ u x) u)
 
-abbrev pub Conditions-left-out : Design → Type 0
-Conditions-left-out d = Rules d (Separate d) (Entries d) (Bare-flows d) (Stays two d)
+abbrev pub ConditionsLeftOut : Design → Type 0
+ConditionsLeftOut d = Rules d (Separate d) (Entries d) (BareFlows d) (Stays two d)
 
 -- 14 asks nothing
-abbrev pub Skips-allowed : Design → Type 0
-Skips-allowed d = Rules d (Separate d) (Entries d) (Flows two d) (λ path u e. Unit)
+abbrev pub SkipsAllowed : Design → Type 0
+SkipsAllowed d = Rules d (Separate d) (Entries d) (Flows two d) (λ path u e. Unit)
 
 -- 11 asks nothing of tables
-abbrev pub Any-entries : Design → Type 0
-Any-entries d = Rules d (Separate d) Unit (Flows two d) (Stays two d)
+abbrev pub AnyEntries : Design → Type 0
+AnyEntries d = Rules d (Separate d) Unit (Flows two d) (Stays two d)
 
 -- two assignments of one variable may stand on one path
-abbrev pub Overlaps-allowed : Design → Type 0
-Overlaps-allowed d = Rules d Unit (Entries d) (Flows two d) (Stays two d)
+abbrev pub OverlapsAllowed : Design → Type 0
+OverlapsAllowed d = Rules d Unit (Entries d) (Flows two d) (Stays two d)
 
 -- ---- the machine without clearing
 
 abbrev pub keep : Design → Valuation → Call → Valuation
 keep d σ (drive v x) = cond (accepts d v x) (put σ v x) σ
-keep d σ clock = after (values d σ) σ (together (d .clocked))
+keep d σ clock = after (values d σ) σ (together d.clocked)
 keep d σ reset = opening d
 keep d σ (read m w v) = σ
 
-abbrev pub keep-run : Design → Valuation → List Call → Valuation
-keep-run d σ [] = σ
-keep-run d σ (c ∷ cs) = keep-run d (keep d σ c) cs
+abbrev pub keep_run : Design → Valuation → List Call → Valuation
+keep_run d σ [] = σ
+keep_run d σ (c ∷ cs) = keep_run d (keep d σ c) cs
 
-abbrev pub keep-strike : Design → ℕ → Valuation → List Call → List Call
-keep-strike d w σ [] = []
-keep-strike d w σ (c ∷ cs) = cond (stays two d w σ c) (c ∷ keep-strike d w (keep d σ c) cs) (keep-strike d w (keep d σ c) cs)
+abbrev pub keep_strike : Design → ℕ → Valuation → List Call → List Call
+keep_strike d w σ [] = []
+keep_strike d w σ (c ∷ cs) = cond (stays two d w σ c) (c ∷ keep_strike d w (keep d σ c) cs) (keep_strike d w (keep d σ c) cs)
 
 -- the first half of the guarantee, of that machine
-abbrev pub Kept-bounded : Design → Type 0
-Kept-bounded d =
-    (w : ℕ) (cs ds : List Call) → keep-strike d w (opening d) cs ≡ keep-strike d w (opening d) ds
-    → (v : ℕ) → answer two d (keep-run d (opening d) cs) w v ≡ answer two d (keep-run d (opening d) ds) w v
+abbrev pub KeptBounded : Design → Type 0
+KeptBounded d =
+    (w : ℕ) (cs ds : List Call) → keep_strike d w (opening d) cs ≡ keep_strike d w (opening d) ds
+    → (v : ℕ) → answer two d (keep_run d (opening d) cs) w v ≡ answer two d (keep_run d (opening d) ds) w v
 
 -- ---- the designs; every variable is 1 wide
 
@@ -94,7 +90,7 @@ sample top start block = record {
   tables = (0 ∷ top ∷ []) ∷ [];
   variables =
       record { kind = port; width = 1; label = fixed 1; reset = 0 }
-      ∷ record { kind = register; width = 1; label = looked-up 0 1; reset = start }
+      ∷ record { kind = register; width = 1; label = looked_up 0 1; reset = start }
       ∷ record { kind = register; width = 1; label = fixed 0; reset = 0 }
       ∷ [];
   settled = [];
@@ -124,7 +120,7 @@ keeping = record {
   variables =
       record { kind = port; width = 1; label = fixed 0; reset = 0 }
       ∷ record { kind = port; width = 1; label = fixed 1; reset = 0 }
-      ∷ record { kind = register; width = 1; label = looked-up 0 0; reset = 0 }
+      ∷ record { kind = register; width = 1; label = looked_up 0 0; reset = 0 }
       ∷ [];
   settled = [];
   clocked = choice (variable 1 0 0) (assign 2 (variable 1 1 1) 0) idle ∷ [];
@@ -135,10 +131,10 @@ keeping = record {
 pub record Leaks : Type 0 where
   pub lattice : Laws two
   -- with nothing weaker, the rules are those of form and typing
-  pub whole : (d : Design) → All-rules d ↔ (Formed d × Typed two d)
-  pub conditions : Conditions-left-out copying × (Secure two copying → ⊥)
-  pub skipped : Skips-allowed skipping × (Secure two skipping → ⊥)
-  pub no-level : Any-entries levelless × (Secure two levelless → ⊥)
-  pub overlap : Overlaps-allowed overlapping × (Secure two overlapping → ⊥)
+  pub whole : (d : Design) → AllRules d ↔ (Formed d × Typed two d)
+  pub conditions : ConditionsLeftOut copying × (Secure two copying → ⊥)
+  pub skipped : SkipsAllowed skipping × (Secure two skipping → ⊥)
+  pub no_level : AnyEntries levelless × (Secure two levelless → ⊥)
+  pub overlap : OverlapsAllowed overlapping × (Secure two overlapping → ⊥)
   -- this one is accepted, and leaks only where the machine does not clear
-  pub uncleared : Formed keeping × Typed two keeping × (Kept-bounded keeping → ⊥)
+  pub uncleared : Formed keeping × Typed two keeping × (KeptBounded keeping → ⊥)

@@ -1,8 +1,6 @@
 -- What a design is: trees of expressions and commands over numbered variables.
 -- A reading and an assignment carry the number of the record that they stand in, by which a refusal names them.
-use mathlib.Core.List.{List, [], _∷_, _++_}
-use Prim.Native.Nat.{ℕ}
-use lib.ListN.{length, getD}
+use Rattle.std.specs.Prelude.{ℕ, List, [], ◌∷◌, ◌++◌, length, slice_index, slice_index_or}
 
 pub data Op : Type 0 where
   and or xor sum difference equals less : Op
@@ -13,7 +11,7 @@ pub data Expr : Type 0 where
   variable : (width v place : ℕ) → Expr
   complement : (width : ℕ) → Expr → Expr
   binary : (width : ℕ) → Op → Expr → Expr → Expr
-  shift-left shift-right : (width : ℕ) → Expr → (by : ℕ) → Expr
+  shift_left shift-right : (width : ℕ) → Expr → (by : ℕ) → Expr
   -- as many bits as the width says, from bit `from` up
   part : (width from : ℕ) → Expr → Expr
   -- the first joined above the second
@@ -34,7 +32,7 @@ pub data Kind : Type 0 where
 -- a variable's level is fixed, or stands in a table at the value of its selector
 pub data Label : Type 0 where
   fixed : (level : ℕ) → Label
-  looked-up : (table selector : ℕ) → Label
+  looked_up : (table selector : ℕ) → Label
 
 pub record Variable : Type 0 where
   pub kind : Kind
@@ -54,21 +52,21 @@ abbrev pub nothing : Variable
 nothing = record { kind = wire; width = 0; label = fixed 0; reset = 0 }
 
 abbrev pub count : Design → ℕ
-count d = length (d .variables)
+count d = length d.variables
 
 abbrev pub var : Design → ℕ → Variable
-var d v = getD (d .variables) v nothing
+var d v = slice_index_or d.variables v nothing
 
 -- entry i of the table t
 abbrev pub entry : Design → ℕ → ℕ → ℕ
-entry d t i = getD (getD (d .tables) t []) i 0
+entry d t i = slice_index (slice_index_or d.tables t []) i
 
 abbrev pub width : Expr → ℕ
 width (constant w n) = w
 width (variable w v k) = w
 width (complement w a) = w
 width (binary w o a b) = w
-width (shift-left w a n) = w
+width (shift_left w a n) = w
 width (shift-right w a n) = w
 width (part w n a) = w
 width (above w a b) = w
@@ -80,7 +78,7 @@ vars (constant w n) = []
 vars (variable w v k) = v ∷ []
 vars (complement w a) = vars a
 vars (binary w o a b) = vars a ++ vars b
-vars (shift-left w a n) = vars a
+vars (shift_left w a n) = vars a
 vars (shift-right w a n) = vars a
 vars (part w n a) = vars a
 vars (above w a b) = vars a ++ vars b

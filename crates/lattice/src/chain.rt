@@ -1,12 +1,10 @@
 //! C: a chain of levels.
-ghost use mathlib.Core.Path.{_≡_};
-ghost use Prim.Native.Nat.{ℕ, _≤_, _<_};
-ghost use Rattle·lattice·specs.Kinds.{chain};
-ghost use Rattle·refusal.specs.Outcome.{Made-if};
-ghost use Rattle·refusal.specs.declared.Refusal.the-variants.{OutsideLimits};
-use crate::Lattice;
-use crate::Level;
-use crate::MOST_LEVELS;
+ghost use Rattle.std.specs.Prelude.{◌≡◌, ℕ, ◌<◌, ◌≤◌};
+ghost use Rattle.lattice.specs.Kinds.{chain};
+ghost use Rattle.refusal.specs.Outcome.{MadeIf};
+ghost use Rattle.refusal.specs.declared.Refusal.TheVariants.{OutsideLimits};
+
+use crate::{Lattice, Level, MOST_LEVELS};
 use refusal::Refusal;
 
 /// Levels 0 to n - 1, each at or below those that follow it.
@@ -20,7 +18,7 @@ pub struct Chain {
 impl Chain {
     /// The chain of `n` levels.
     pub fn new(n: u32) -> Result<Chain, Refusal>
-        ensures { λ r. ⌜ Made-if r ((1 ≤ n) × (n ≤ 65536)) (λ c. c .n ≡ n) OutsideLimits ⌝ }
+        ensures { MadeIf result ((1 ≤ n) × (n ≤ 65536)) (λ c. c.n ≡ n) OutsideLimits }
     {
         if n < 1 || n > MOST_LEVELS {
             return Err(Refusal::OutsideLimits);
@@ -29,10 +27,10 @@ impl Chain {
     }
 }
 
-pub impl Lattice for Chain as ChainLattice {
+impl Lattice for Chain {
     const SIGN: char = 'C';
 
-    ghost meaning = { λ s. chain (s .n) };
+    ghost meaning = { λ s. chain s.n };
 
     fn count(&self) -> u32 {
         self.n

@@ -1,14 +1,10 @@
 //! P: the pair of two lattices.
-ghost use mathlib.Core.Path.{_≡_};
-ghost use Prim.Native.Nat.{ℕ, _+_, _*_, _≤_, _<_};
-ghost use lib.Dec.{ltb};
-ghost use Rattle·lattice·specs.Kinds.{pair, Two-levels};
-ghost use Rattle·std.specs.Options.{Cases as BySome};
-ghost use Rattle·refusal.specs.Outcome.{Made-if};
-ghost use Rattle·refusal.specs.declared.Refusal.the-variants.{OutsideLimits};
-use crate::Lattice;
-use crate::Level;
-use crate::MOST_LEVELS;
+ghost use Rattle.std.specs.Prelude.{◌≡◌, ℕ, ◌+◌, ◌*◌, ◌<◌, ◌≤◌, MatchOption, nat_lt};
+ghost use Rattle.lattice.specs.Kinds.{pair, TwoLevels};
+ghost use Rattle.refusal.specs.Outcome.{MadeIf};
+ghost use Rattle.refusal.specs.declared.Refusal.TheVariants.{OutsideLimits};
+
+use crate::{Lattice, Level, MOST_LEVELS};
 use refusal::Refusal;
 
 /// Level `a * q + b` stands for level `a` of the first and `b` of the second, which has `q` levels.
@@ -21,10 +17,10 @@ pub struct Pair<A, B> {
 
 /// How many levels the pair of two lattices has, where these are not too many.
 pub fn pair_count<A: Lattice, B: Lattice>(first: &A, second: &B) -> Result<u32, Refusal>
-    ensures { λ r. ⌜ Made-if r
-        (A·Lattice .meaning (now (first .entry)) .count * B·Lattice .meaning (now (second .entry)) .count ≤ 65536)
-        (λ n. n ≡ A·Lattice .meaning (now (first .entry)) .count * B·Lattice .meaning (now (second .entry)) .count)
-        OutsideLimits ⌝ }
+    ensures { MadeIf result
+        ((A.Lattice.meaning first.now).count * (B.Lattice.meaning second.now).count ≤ 65536)
+        (λ n. n ≡ (A.Lattice.meaning first.now).count * (B.Lattice.meaning second.now).count)
+        OutsideLimits }
 {
     let n = first.count() as u64 * second.count() as u64;
     if n > MOST_LEVELS as u64 {
@@ -36,16 +32,16 @@ pub fn pair_count<A: Lattice, B: Lattice>(first: &A, second: &B) -> Result<u32, 
 impl<A: Lattice, B: Lattice> Pair<A, B> {
     // Whether the product has too many levels.
     fn is_over(&self) -> bool
-        ensures { λ r. ⌜ r ≡ ltb 65536 (A·Lattice .meaning (now (self .entry) .first) .count * B·Lattice .meaning (now (self .entry) .second) .count) ⌝ }
+        ensures { result ≡ nat_lt 65536 ((A.Lattice.meaning self.now.first).count * (B.Lattice.meaning self.now.second).count) }
     {
         self.first.count() as u64 * self.second.count() as u64 > MOST_LEVELS as u64
     }
 
     // How many levels share a high half, where `a` and `b` are levels of the product.
     fn columns(&self, a: Level, b: Level) -> Option<u32>
-        ensures { λ r. ⌜ BySome r
-            (Two-levels (A·Lattice .meaning (now (self .entry) .first)) (B·Lattice .meaning (now (self .entry) .second)) a b → ⊥)
-            (λ q. Two-levels (A·Lattice .meaning (now (self .entry) .first)) (B·Lattice .meaning (now (self .entry) .second)) a b × (q ≡ B·Lattice .meaning (now (self .entry) .second) .count)) ⌝ }
+        ensures { MatchOption result
+            (TwoLevels (A.Lattice.meaning self.now.first) (B.Lattice.meaning self.now.second) a b → ⊥)
+            (λ q. TwoLevels (A.Lattice.meaning self.now.first) (B.Lattice.meaning self.now.second) a b × (q ≡ (B.Lattice.meaning self.now.second).count)) }
     {
         let p = self.first.count();
         let q = self.second.count();
@@ -58,19 +54,19 @@ impl<A: Lattice, B: Lattice> Pair<A, B> {
 
     // The level of two halves.
     fn level(&self, a: Level, b: Level) -> Level
-        requires { ⌜ A·Lattice .meaning (now self .first) .count * B·Lattice .meaning (now self .second) .count ≤ 65536 ⌝ }
-        requires { ⌜ a < A·Lattice .meaning (now self .first) .count ⌝ }
-        requires { ⌜ b < B·Lattice .meaning (now self .second) .count ⌝ }
-        ensures { λ r. ⌜ r ≡ a * B·Lattice .meaning (now (self .entry) .second) .count + b ⌝ }
+        requires second_bound { (A.Lattice.meaning self.now.first).count * (B.Lattice.meaning self.now.second).count ≤ 65536 }
+        requires a_bound { a < (A.Lattice.meaning self.now.first).count }
+        requires b_bound { b < (B.Lattice.meaning self.now.second).count }
+        ensures { result ≡ a * (B.Lattice.meaning self.now.second).count + b }
     {
         a * self.second.count() + b
     }
 }
 
-pub impl<A: Lattice, B: Lattice> Lattice for Pair<A, B> as PairLattice {
+impl<A: Lattice, B: Lattice> Lattice for Pair<A, B> {
     const SIGN: char = 'P';
 
-    ghost meaning = { λ s. pair (A·Lattice .meaning (s .first)) (B·Lattice .meaning (s .second)) };
+    ghost meaning = { λ s. pair (A.Lattice.meaning s.first) (B.Lattice.meaning s.second) };
 
     fn count(&self) -> u32 {
         match pair_count(&self.first, &self.second) {

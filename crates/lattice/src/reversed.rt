@@ -1,8 +1,8 @@
 //! R: a lattice turned round.
-ghost use mathlib.Core.Path.{_≡_};
-ghost use Rattle·lattice·specs.Kinds.{reversed};
-use crate::Lattice;
-use crate::Level;
+ghost use Rattle.std.specs.Prelude.{◌≡◌};
+ghost use Rattle.lattice.specs.Kinds.{reversed};
+
+use crate::{Lattice, Level};
 
 /// The levels of `of`, with the order turned round.
 #[derive(Clone, Copy)]
@@ -10,10 +10,10 @@ pub struct Reversed<A> {
     pub of: A,
 }
 
-pub impl<A: Lattice> Lattice for Reversed<A> as ReversedLattice {
+impl<A: Lattice> Lattice for Reversed<A> {
     const SIGN: char = 'R';
 
-    ghost meaning = { λ s. reversed (A·Lattice .meaning (s .of)) };
+    ghost meaning = { λ s. reversed (A.Lattice.meaning s.of) };
 
     fn count(&self) -> u32 {
         self.of.count()

@@ -1,12 +1,10 @@
 //! S: the sets of some owners.
-ghost use mathlib.Core.Path.{_≡_};
-ghost use Prim.Native.Nat.{ℕ, _≤_, _<_};
-ghost use Rattle·lattice·specs.Kinds.{sets, Subset};
-ghost use Rattle·refusal.specs.Outcome.{Made-if};
-ghost use Rattle·refusal.specs.declared.Refusal.the-variants.{OutsideLimits};
-ghost use Rattle·std.specs.Orderings.{Decides};
-use crate::Lattice;
-use crate::Level;
+ghost use Rattle.std.specs.Prelude.{◌≡◌, ℕ, ◌<◌, ◌≤◌, Decides};
+ghost use Rattle.lattice.specs.Kinds.{sets, Subset};
+ghost use Rattle.refusal.specs.Outcome.{MadeIf};
+ghost use Rattle.refusal.specs.declared.Refusal.TheVariants.{OutsideLimits};
+
+use crate::{Lattice, Level};
 use refusal::Refusal;
 
 /// A level is a set of owners: bit i is 1 where owner i belongs to it.
@@ -21,7 +19,7 @@ impl Sets {
 
     /// The sets of `owners` owners.
     pub fn new(owners: u32) -> Result<Sets, Refusal>
-        ensures { λ r. ⌜ Made-if r (owners ≤ 16) (λ s. s .owners ≡ owners) OutsideLimits ⌝ }
+        ensures { MadeIf result (owners ≤ 16) (λ s. s.owners ≡ owners) OutsideLimits }
     {
         if owners > Self::MOST_OWNERS {
             return Err(Refusal::OutsideLimits);
@@ -31,16 +29,16 @@ impl Sets {
 
     // Whether `b` is a level and has every bit of `a`.
     fn has_bits(&self, a: Level, b: Level) -> bool
-        ensures { λ r. ⌜ r ≡ sets (now (self .entry) .owners) .below a b ⌝ }
+        ensures { result ≡ (sets self.now.owners).below a b }
     {
         a & b == a && b < self.count()
     }
 }
 
-pub impl Lattice for Sets as SetsLattice {
+impl Lattice for Sets {
     const SIGN: char = 'S';
 
-    ghost meaning = { λ s. sets (s .owners) };
+    ghost meaning = { λ s. sets s.owners };
 
     fn count(&self) -> u32 {
         1 << self.owners
@@ -48,8 +46,8 @@ pub impl Lattice for Sets as SetsLattice {
 
     // `subset` says in owners what the bits say.
     fn is_below(&self, a: Level, b: Level) -> bool
-        ensures below { λ r. ⌜ r ≡ sets (now (self .entry) .owners) .below a b ⌝ }
-        ensures subset { λ r. ⌜ Decides r (Subset (now (self .entry) .owners) a b) ⌝ }
+        ensures below { result ≡ (sets self.now.owners).below a b }
+        ensures subset { Decides result (Subset self.now.owners a b) }
     {
         self.has_bits(a, b)
     }

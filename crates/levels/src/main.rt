@@ -1,9 +1,6 @@
 //! Reads a clearance table as text, n lines of n digits 0 or 1, and prints what it means, or the refusal.
-use clearance::TableLattice;
 use clearance::read_table;
-use lattice::Lattice;
-use lattice::Level;
-use refusal::RefusalDisplay;
+use lattice::{Lattice, Level};
 use std::io;
 use std::io::Read;
 
@@ -22,7 +19,7 @@ fn answer<L: Lattice>(lattice: &L, question: Question, a: Level, b: Level) -> Le
 }
 
 fn print_row<L: Lattice>(
-    rt: &LibcRuntime,
+    rt: &HostRuntime,
     lattice: &L,
     question: Question,
     a: Level,
@@ -30,38 +27,38 @@ fn print_row<L: Lattice>(
     for b in 0..lattice.count() {
         let gap = if b == 0 { "" } else { " " };
         let level = answer(lattice, question, a, b);
-        print!(rt, "{gap}{level}")?;
+        print!(rt; "{gap}{level}")?;
     }
-    println!(rt, "")
+    println!(rt; "")
 }
 
-fn print_answers<L: Lattice>(rt: &LibcRuntime, lattice: &L, question: Question) -> io::Result<()> {
+fn print_answers<L: Lattice>(rt: &HostRuntime, lattice: &L, question: Question) -> io::Result<()> {
     for a in 0..lattice.count() {
         print_row(rt, lattice, question, a)?;
     }
     Ok(())
 }
 
-fn print_lattice<L: Lattice>(rt: &LibcRuntime, lattice: &L) -> io::Result<()> {
+fn print_lattice<L: Lattice>(rt: &HostRuntime, lattice: &L) -> io::Result<()> {
     let sign = L::SIGN;
     let count = lattice.count();
     let lowest = lattice.lowest();
     let highest = lattice.highest();
-    println!(rt, "sign {sign}")?;
-    println!(rt, "count {count}")?;
-    println!(rt, "lowest {lowest}")?;
-    println!(rt, "highest {highest}")?;
-    println!(rt, "joins")?;
+    println!(rt; "sign {sign}")?;
+    println!(rt; "count {count}")?;
+    println!(rt; "lowest {lowest}")?;
+    println!(rt; "highest {highest}")?;
+    println!(rt; "joins")?;
     print_answers(rt, lattice, Question::Join)?;
-    println!(rt, "meets")?;
+    println!(rt; "meets")?;
     print_answers(rt, lattice, Question::Meet)
 }
 
-fn main(rt: LibcRuntime) -> io::Result<()> {
+fn main(rt: HostRuntime) -> io::Result<()> {
     let mut text = Vec::new(rt.alloc());
     rt.stdin().read_to_end(&mut text)?;
     match read_table(&text) {
         Ok(table) => print_lattice(&rt, &table),
-        Err(refusal) => println!(rt, "{refusal}"),
+        Err(refusal) => println!(rt; "{refusal}"),
     }
 }

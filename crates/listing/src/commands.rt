@@ -1,13 +1,8 @@
 //! Commands as text.
 use crate::Source;
 use crate::expressions::ExpressionText;
-use crate::expressions::ExpressionTextDisplay;
-use crate::variables::NameDisplay;
 use crate::variables::name_of;
-use records::Action;
-use records::Kind;
-use records::action_at;
-use records::variable_at;
+use records::{Action, Kind, action_at, variable_at};
 use std::fmt;
 
 /// A command, a line for each assignment and each branch.
@@ -19,7 +14,7 @@ pub struct CommandText<'a> {
     pub depth: u32,
 }
 
-pub impl fmt::Display for CommandText<'_> as CommandTextDisplay {
+impl fmt::Display for CommandText<'_> {
     fn fmt<W: fmt::Write>(&self, f: &mut fmt::Formatter<W>) -> fmt::Result {
         show(*self, self.command, self.depth, f)
     }

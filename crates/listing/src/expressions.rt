@@ -1,10 +1,7 @@
 //! Expressions as text.
 use crate::Source;
-use crate::variables::NameDisplay;
 use crate::variables::name_of;
-use records::Node;
-use records::Pairing;
-use records::node_at;
+use records::{Node, Pairing, node_at};
 use std::fmt;
 
 /// An expression, written out.
@@ -14,7 +11,7 @@ pub struct ExpressionText<'a> {
     pub expression: u32,
 }
 
-pub impl fmt::Display for ExpressionText<'_> as ExpressionTextDisplay {
+impl fmt::Display for ExpressionText<'_> {
     fn fmt<W: fmt::Write>(&self, f: &mut fmt::Formatter<W>) -> fmt::Result {
         show(self.source, self.expression, false, f)
     }

@@ -5,16 +5,10 @@ mod reasons;
 mod variables;
 
 pub use commands::CommandText;
-pub use commands::CommandTextDisplay;
 pub use expressions::ExpressionText;
-pub use expressions::ExpressionTextDisplay;
 pub use reasons::Reason;
-pub use reasons::ReasonDisplay;
 use records::Layout;
-pub use variables::TableText;
-pub use variables::TableTextDisplay;
-pub use variables::VariableText;
-pub use variables::VariableTextDisplay;
+pub use variables::{TableText, VariableText};
 
 /// A design file, and where its sections lie.
 #[derive(Clone, Copy)]

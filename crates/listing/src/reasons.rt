@@ -8,7 +8,7 @@ pub struct Reason {
     pub refusal: Refusal,
 }
 
-pub impl fmt::Display for Reason as ReasonDisplay {
+impl fmt::Display for Reason {
     fn fmt<W: fmt::Write>(&self, f: &mut fmt::Formatter<W>) -> fmt::Result {
         let reason = reason_of(self.refusal);
         let record = self.refusal.record();

@@ -1,9 +1,6 @@
 //! Tables and variables as text.
 use crate::Source;
-use records::Form;
-use records::Kind;
-use records::field;
-use records::variable_at;
+use records::{Form, Kind, field, variable_at};
 use refusal::Section;
 use std::fmt;
 
@@ -19,7 +16,7 @@ pub(crate) fn name_of(source: Source<'_>, number: u32) -> Name {
     Name { kind, number }
 }
 
-pub(crate) impl fmt::Display for Name as NameDisplay {
+impl fmt::Display for Name {
     fn fmt<W: fmt::Write>(&self, f: &mut fmt::Formatter<W>) -> fmt::Result {
         let number = self.number;
         match self.kind {
@@ -42,9 +39,10 @@ pub struct TableText<'a> {
 /// How many entries a label table has.
 pub const ENTRIES: u32 = 16;
 
-pub impl fmt::Display for TableText<'_> as TableTextDisplay {
+impl fmt::Display for TableText<'_> {
     fn fmt<W: fmt::Write>(&self, f: &mut fmt::Formatter<W>) -> fmt::Result {
-        let levels = self.source
+        let levels = self
+            .source
             .layout
             .record(self.source.file, Section::Tables, self.table);
         for i in 0..self.entries.min(ENTRIES) {
@@ -67,7 +65,7 @@ fn values_of(width: u8) -> u32 {
     if width < 4 { 1 << width } else { ENTRIES }
 }
 
-pub impl fmt::Display for VariableText<'_> as VariableTextDisplay {
+impl fmt::Display for VariableText<'_> {
     fn fmt<W: fmt::Write>(&self, f: &mut fmt::Formatter<W>) -> fmt::Result {
         let name = name_of(self.source, self.variable);
         let variable = variable_at(self.source.file, self.source.layout, self.variable);

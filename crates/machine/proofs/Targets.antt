@@ -1,25 +1,20 @@
 -- No command that a file describes assigns a number past the last variable.
-use mathlib.Core.Path.{_≡_, refl, sym, subst}
-use mathlib.Core.Bool.{Bool, true, false, cond, not, _&&_}
-use mathlib.Core.List.{List, _∷_}
-use Prim.Native.Nat.{ℕ, zero, suc, _+_, _≤_, _<_}
-use native.Mathlib.Omega.{arith}
-use lib.Dec.{ltb}
-use Rattle·std.proofs.shelf.Tests.{or-from, and-parts, ltb-true, ne-eqb}
-use Rattle·refusal.specs.declared.Section.the-variants.{Variables, Blocks, Commands}
-use Rattle·language.specs.Syntax.{Expr, Cmd, together}
-use Rattle·language.specs.Form.{assigns}
-use Rattle·records.specs.declared.layout.Layout.{Layout}
-use Rattle·records.specs.declared.cells.Step.{Step}
-use Rattle·records.specs.declared.cells.Step.the-variants as step
-use Rattle·records.specs.declared.nodes.Action.{Action}
-use Rattle·records.specs.declared.nodes.Action.the-variants.{Idle, Both, Choose, Assign}
-use Rattle·records.specs.Layouts.{limitOf, countIn}
-use Rattle·records.specs.Cells.{blockAt, commandAt}
-use Rattle·records.specs.Nodes.{actionBy, actionOf, actionAt, LowerParts}
-use Rattle·records.specs.Trees.{growCmd, exprAt, cmdAt, bodyAt, bodies, settledAt, designOf}
-use Rattle·records.proofs.Growing.{cmd-is}
-use Rattle·records.proofs.Designs.{clocked-is}
+use Rattle.std.proofs.Common.{◌≡◌, ℕ, zero, suc, ◌+◌, ◌<◌, ◌≤◌, Bool, true, false, cond, not, ◌&&◌, ltb, List, ◌∷◌, sym, refl, subst, arith}
+use Rattle.std.proofs.lemmas.Bool.{or_from, and_parts, ltb-true, ne_eqb}
+use Rattle.refusal.specs.declared.Section.TheVariants.{Variables, Blocks, Commands}
+use Rattle.language.specs.Syntax.{Expr, Cmd, together}
+use Rattle.language.specs.Form.{assigns}
+use Rattle.records.specs.declared.layout.Layout.{Layout}
+use Rattle.records.specs.declared.cells.Step.{Step}
+use Rattle.records.specs.declared.cells.Step.TheVariants as step
+use Rattle.records.specs.declared.nodes.Action.{Action}
+use Rattle.records.specs.declared.nodes.Action.TheVariants.{Idle, Both, Choose, Assign}
+use Rattle.records.specs.Layouts.{limit_of, count_in}
+use Rattle.records.specs.Cells.{block_at, command_at}
+use Rattle.records.specs.Nodes.{action_by, action_of, action_at, LowerParts}
+use Rattle.records.specs.Trees.{grow_cmd, expr_at, cmd_at, body_at, bodies, settled_at, design_of}
+use Rattle.records.proofs.Growing.{cmd_is}
+use Rattle.records.proofs.Designs.{clocked_is}
 
 -- a command assigns no number past the last variable that a design can have
 abbrev pub Low : Cmd → Type 0
@@ -28,52 +23,52 @@ Low c = (v : ℕ) → 128 ≤ v → assigns c v ≡ false
 -- what an action names: parts that are lower, and a variable
 record Named (x : Action) (n : ℕ) : Type 0 where
   parts : LowerParts x n
-  target : (at : ℕ → Cmd) (es : ℕ → Expr) → ((k : ℕ) → k < n → Low (at k)) → Low (growCmd es x at)
+  target : (at : ℕ → Cmd) (es : ℕ → Expr) → ((k : ℕ) → k < n → Low (at k)) → Low (grow_cmd es x at)
 
-named-idle : (n : ℕ) → Named Idle n
-named-idle n = record { parts = tt; target = λ at es h v ge. refl }
+named_idle : (n : ℕ) → Named Idle n
+named_idle n = record { parts = tt; target = λ at es h v ge. refl }
 
-named-if : (t : Bool) (x : Action) (n : ℕ) → (t ≡ true → Named x n) → Named (cond t x Idle) n
-named-if true x n h = h refl
-named-if false x n h = named-idle n
+named_if : (t : Bool) (x : Action) (n : ℕ) → (t ≡ true → Named x n) → Named (cond t x Idle) n
+named_if true x n h = h refl
+named_if false x n h = named_idle n
 
-named-step : (s : Step) (a b c n : ℕ) → Named (actionBy s a b c n) n
-named-step step.Idle a b c n = named-idle n
-named-step step.Both a b c n = named-if (ltb a n && ltb b n) (Both a b) n (λ e.
-    let p = and-parts (ltb a n) (ltb b n) e in
-    let one = ltb-true a n (p .0) in
-    let two = ltb-true b n (p .1) in
-    record { parts = (one, two); target = λ at es h v ge. or-from (assigns (at a) v) (assigns (at b) v) (h a one v ge) (h b two v ge) })
-named-step step.Choose a b c n = named-if (ltb b n && ltb c n) (Choose a b c) n (λ e.
-    let p = and-parts (ltb b n) (ltb c n) e in
-    let one = ltb-true b n (p .0) in
-    let two = ltb-true c n (p .1) in
-    record { parts = (one, two); target = λ at es h v ge. or-from (assigns (at b) v) (assigns (at c) v) (h b one v ge) (h c two v ge) })
-named-step step.Assign a b c n = named-if (ltb a (limitOf Variables)) (Assign a b n) n (λ e.
+named_step : (s : Step) (a b c n : ℕ) → Named (action_by s a b c n) n
+named_step step.Idle a b c n = named_idle n
+named_step step.Both a b c n = named_if (ltb a n && ltb b n) (Both a b) n (λ e.
+    let p = and_parts (ltb a n) (ltb b n) e in
+    let one = ltb-true a n p.0 in
+    let two = ltb-true b n p.1 in
+    record { parts = (one, two); target = λ at es h v ge. or_from (assigns (at a) v) (assigns (at b) v) (h a one v ge) (h b two v ge) })
+named_step step.Choose a b c n = named_if (ltb b n && ltb c n) (Choose a b c) n (λ e.
+    let p = and_parts (ltb b n) (ltb c n) e in
+    let one = ltb-true b n p.0 in
+    let two = ltb-true c n p.1 in
+    record { parts = (one, two); target = λ at es h v ge. or_from (assigns (at b) v) (assigns (at c) v) (h b one v ge) (h c two v ge) })
+named_step step.Assign a b c n = named_if (ltb a (limit_of Variables)) (Assign a b n) n (λ e.
     let lt : a < 128 = ltb-true a 128 e in
-    record { parts = tt; target = λ at es h v ge. ne-eqb a v (λ (same : a ≡ v). omega arith) })
-named-step step.Unknown a b c n = named-idle n
+    record { parts = tt; target = λ at es h v ge. ne_eqb a v (λ (same : a ≡ v). omega arith) })
+named_step step.Unknown a b c n = named_idle n
 
 module _ (f : List ℕ) (l : Layout) where
-  named : (n : ℕ) → Named (actionAt f l n) n
-  named n = named-if (ltb n (limitOf Commands)) (actionOf (commandAt f l n) n) n (λ e. let x = commandAt f l n in named-step (x .step) (x .a) (x .b) (x .c) n)
+  named : (n : ℕ) → Named (action_at f l n) n
+  named n = named_if (ltb n (limit_of Commands)) (action_of (command_at f l n) n) n (λ e. let x = command_at f l n in named_step x.step x.a x.b x.c n)
 
-  low-below : (n k : ℕ) → k < n → Low (cmdAt f l k)
-  low-below zero k lt = absurd (omega arith)
-  low-below (suc n) k lt =
-      subst Low (sym (cmd-is f l k (actionAt f l k) refl (named k .parts)))
-      (named k .target (cmdAt f l) (exprAt f l) (λ j below. low-below n j (omega arith)))
+  low_below : (n k : ℕ) → k < n → Low (cmd_at f l k)
+  low_below zero k lt = absurd (omega arith)
+  low_below (suc n) k lt =
+      subst Low (sym (cmd_is f l k (action_at f l k) refl (named k).parts))
+      ((named k).target (cmd_at f l) (expr_at f l) (λ j below. low_below n j (omega arith)))
 
-  pub low-body : (b : ℕ) → Low (bodyAt f l b)
-  low-body b = low-below (suc (blockAt f l b .top)) (blockAt f l b .top) (omega arith)
+  pub low_body : (b : ℕ) → Low (body_at f l b)
+  low_body b = low_below (suc (block_at f l b).top) (block_at f l b).top (omega arith)
 
-  low-bodies : (wanted : ℕ → Bool) (b k : ℕ) → Low (together (bodies f l wanted b k))
-  low-bodies wanted b zero v ge = refl
-  low-bodies wanted b (suc k) v ge = go (wanted b) (low-bodies wanted (b + 1) k v ge)
+  low_bodies : (wanted : ℕ → Bool) (b k : ℕ) → Low (together (bodies f l wanted b k))
+  low_bodies wanted b zero v ge = refl
+  low_bodies wanted b (suc k) v ge = go (wanted b) (low_bodies wanted (b + 1) k v ge)
     where
-      go : (t : Bool) → assigns (together (bodies f l wanted (b + 1) k)) v ≡ false → assigns (together (cond t (bodyAt f l b ∷ bodies f l wanted (b + 1) k) (bodies f l wanted (b + 1) k))) v ≡ false
-      go true h = or-from (assigns (bodyAt f l b) v) (assigns (together (bodies f l wanted (b + 1) k)) v) (low-body b v ge) h
+      go : (t : Bool) → assigns (together (bodies f l wanted (b + 1) k)) v ≡ false → assigns (together (cond t (body_at f l b ∷ bodies f l wanted (b + 1) k) (bodies f l wanted (b + 1) k))) v ≡ false
+      go true h = or_from (assigns (body_at f l b) v) (assigns (together (bodies f l wanted (b + 1) k)) v) (low_body b v ge) h
       go false h = h
 
-  pub low-clocked : Low (together (designOf f l .clocked))
-  low-clocked = subst (λ cs. Low (together cs)) (sym (clocked-is f l)) (low-bodies (λ b. not (settledAt f l b)) 0 (countIn l Blocks))
+  pub low_clocked : Low (together (design_of f l).clocked)
+  low_clocked = subst (λ cs. Low (together cs)) (sym (clocked_is f l)) (low_bodies (λ b. not (settled_at f l b)) 0 (count_in l Blocks))

@@ -1,13 +1,11 @@
 -- The values held, by their numbers.
-use mathlib.Core.Path.{_≡_}
-use Prim.Native.Nat.{ℕ, _≤_, _<_}
-use lib.ListN.{getD}
-use Rattle·std.proofs.shelf.Tests.{lt-ltb, le-ltb, cond-true, cond-false}
-use Rattle·language.specs.Machine.{Valuation}
-use Rattle·machine·specs.declared.held.Held.{Held}
-use Rattle·machine·specs.Holding.{valuation}
+use Rattle.std.proofs.Common.{◌≡◌, ℕ, ◌<◌, ◌≤◌, get_or}
+use Rattle.std.proofs.lemmas.Bool.{lt-ltb, le-ltb, cond-true, cond-false}
+use Rattle.language.specs.Machine.{Valuation}
+use Rattle.machine.specs.declared.held.Held.{Held}
+use Rattle.machine.specs.Holding.{valuation}
 
-pub low : (h : Held) (v : ℕ) → v < 128 → valuation h v ≡ getD (h .values) v 0
+pub low : (h : Held) (v : ℕ) → v < 128 → valuation h v ≡ get_or h.values v 0
 low h v lt = cond-true _ _ _ (lt-ltb v 128 lt)
 
 pub past : (h : Held) (v : ℕ) → 128 ≤ v → valuation h v ≡ 0

@@ -1,17 +1,13 @@
 -- What held values mean, and what changes them.
-use mathlib.Core.Path.{_≡_}
-use mathlib.Core.Bool.{cond}
-use Prim.Native.Nat.{ℕ, _<_, _≤_}
-use lib.Dec.{ltb}
-use lib.ListN.{getD}
-use Rattle·language.specs.Machine.{Valuation}
-use Rattle·records.specs.declared.nodes.Node.{Node}
-use Rattle·records.specs.declared.nodes.Node.the-variants as node
-use Rattle·machine·specs.declared.held.Held.{Held}
+use Rattle.std.specs.Prelude.{◌≡◌, ℕ, ◌<◌, ◌≤◌, cond, nat_lt, slice_index}
+use Rattle.language.specs.Machine.{Valuation}
+use Rattle.records.specs.declared.nodes.Node.{Node}
+use Rattle.records.specs.declared.nodes.Node.TheVariants as node
+use Rattle.machine.specs.declared.held.Held.{Held}
 
 -- the value of each variable; past the last it is 0
 abbrev pub valuation : Held → Valuation
-valuation h v = cond (ltb v 128) (getD (h .values) v 0) 0
+valuation h v = cond (nat_lt v 128) (slice_index h.values v) 0
 
 -- the held values are those of σ, for every variable that a design can have
 abbrev pub Holds : Held → Valuation → Type 0
@@ -35,14 +31,14 @@ Sized (node.Part w a b) = Wide w
 Sized (node.Above w a b) = Wide w
 Sized (node.Choose w a b c) = Wide w
 
-abbrev pub bitsOf : Node → ℕ
-bitsOf node.Nothing = 0
-bitsOf (node.Constant w a) = w
-bitsOf (node.Variable w v k) = w
-bitsOf (node.Not w a) = w
-bitsOf (node.Pair w o a b) = w
-bitsOf (node.ShiftLeft w a b) = w
-bitsOf (node.ShiftRight w a b) = w
-bitsOf (node.Part w a b) = w
-bitsOf (node.Above w a b) = w
-bitsOf (node.Choose w a b c) = w
+abbrev pub bits_of : Node → ℕ
+bits_of node.Nothing = 0
+bits_of (node.Constant w a) = w
+bits_of (node.Variable w v k) = w
+bits_of (node.Not w a) = w
+bits_of (node.Pair w o a b) = w
+bits_of (node.ShiftLeft w a b) = w
+bits_of (node.ShiftRight w a b) = w
+bits_of (node.Part w a b) = w
+bits_of (node.Above w a b) = w
+bits_of (node.Choose w a b c) = w

@@ -1,24 +1,18 @@
 //! What commands and blocks write.
-ghost use mathlib.Core.Path.{_≡_};
-ghost use mathlib.Core.Bool.{cond, not, _&&_};
-ghost use Prim.Native.Nat.{ℕ};
-ghost use Rattle·language.specs.Syntax.{together};
-ghost use Rattle·language.specs.Machine.{written, after, values, gets};
-ghost use Rattle·std.specs.Options.{isSome};
-ghost use Rattle·records.specs.Trees.{cmdAt, bodyAt, settledAt, designOf};
-ghost use Rattle·machine·specs.Holding.{valuation, Holds};
+ghost use Rattle.std.specs.Prelude.{◌≡◌, ℕ, not, ◌&&◌, is_some, if◌then◌else◌};
+ghost use Rattle.language.specs.Syntax.{together};
+ghost use Rattle.language.specs.Machine.{written, after, values, gets};
+ghost use Rattle.records.specs.Trees.{cmd_at, body_at, settled_at, design_of};
+ghost use Rattle.machine.specs.Holding.{valuation, Holds};
+
 use crate::held::Held;
 use crate::value::eval;
-use records::Action;
-use records::BlockKind;
-use records::Layout;
-use records::action_at;
-use records::block_at;
+use records::{Action, BlockKind, Layout, action_at, block_at};
 use refusal::Section;
 
 /// Carries out command `n`: all that it reads is read from `before`, and what it writes goes into `held`.
 pub fn execute(held: &mut Held, file: &[u8], l: Layout, before: &Held, n: u32)
-    ensures { λ _. ⌜ Holds (now (held .exit)) (after (valuation (now (before .entry))) (valuation (now (held .entry))) (cmdAt (now (file .entry)) l n)) ⌝ }
+    ensures { Holds held.new (after (valuation before.now) (valuation held.old) (cmd_at file.now l n)) }
 {
     match action_at(file, l, n) {
         Action::Idle => {}
@@ -39,7 +33,7 @@ pub fn execute(held: &mut Held, file: &[u8], l: Layout, before: &Held, n: u32)
 
 // Carries out block `b` on the values held, if it is settled.
 fn settle_block(held: &mut Held, file: &[u8], l: Layout, b: u32)
-    ensures { λ _. ⌜ Holds (now (held .exit)) (λ v. cond (settledAt (now (file .entry)) l b) (after (valuation (now (held .entry))) (valuation (now (held .entry))) (bodyAt (now (file .entry)) l b) v) (valuation (now (held .entry)) v)) ⌝ }
+    ensures { Holds held.new (λ v. (if settled_at file.now l b then after (valuation held.old) (valuation held.old) (body_at file.now l b) v else valuation held.old v)) }
 {
     let block = block_at(file, l, b);
     match block.kind {
@@ -53,7 +47,7 @@ fn settle_block(held: &mut Held, file: &[u8], l: Layout, b: u32)
 
 // Carries out block `b` on the values `before`, unless it is settled.
 fn clock_block(held: &mut Held, file: &[u8], l: Layout, before: &Held, b: u32)
-    ensures { λ _. ⌜ Holds (now (held .exit)) (λ v. cond (not (settledAt (now (file .entry)) l b)) (after (valuation (now (before .entry))) (valuation (now (held .entry))) (bodyAt (now (file .entry)) l b) v) (valuation (now (held .entry)) v)) ⌝ }
+    ensures { Holds held.new (λ v. (if not (settled_at file.now l b) then after (valuation before.now) (valuation held.old) (body_at file.now l b) v else valuation held.old v)) }
 {
     let block = block_at(file, l, b);
     match block.kind {
@@ -64,7 +58,7 @@ fn clock_block(held: &mut Held, file: &[u8], l: Layout, before: &Held, b: u32)
 
 /// The values held, with the wires settled: block by block, each on what those before it left.
 pub fn settled(file: &[u8], l: Layout, held: &Held) -> Held
-    ensures { λ r. ⌜ ((v : ℕ) → valuation r v ≡ values (designOf (now (file .entry)) l) (valuation (now (held .entry))) v) ⌝ }
+    ensures { (v : ℕ) → valuation result v ≡ values (design_of file.now l) (valuation held.now) v }
 {
     let mut now = *held;
     for b in 0..l.count(Section::Blocks) {
@@ -75,7 +69,7 @@ pub fn settled(file: &[u8], l: Layout, held: &Held) -> Held
 
 /// The values held, with what the clocked blocks write, where all that they read is read from `before`.
 pub fn clocked(file: &[u8], l: Layout, before: &Held, held: &Held) -> Held
-    ensures { λ r. ⌜ Holds r (after (valuation (now (before .entry))) (valuation (now (held .entry))) (together (designOf (now (file .entry)) l .clocked))) ⌝ }
+    ensures { Holds result (after (valuation before.now) (valuation held.now) (together (design_of file.now l).clocked)) }
 {
     let mut next = *held;
     for b in 0..l.count(Section::Blocks) {
@@ -86,7 +80,7 @@ pub fn clocked(file: &[u8], l: Layout, before: &Held, held: &Held) -> Held
 
 // Whether command `n` writes to variable `v` where variables have the values held.
 fn writes(file: &[u8], l: Layout, held: &Held, n: u32, v: u32) -> bool
-    ensures { λ r. ⌜ r ≡ isSome (written (valuation (now (held .entry))) v (cmdAt (now (file .entry)) l n)) ⌝ }
+    ensures { result ≡ is_some (written (valuation held.now) v (cmd_at file.now l n)) }
 {
     match action_at(file, l, n) {
         Action::Idle => false,
@@ -109,7 +103,7 @@ fn writes(file: &[u8], l: Layout, held: &Held, n: u32, v: u32) -> bool
 
 // Whether block `b` is settled and writes to variable `v` where variables have the values held.
 fn block_writes(file: &[u8], l: Layout, held: &Held, b: u32, v: u32) -> bool
-    ensures { λ r. ⌜ r ≡ (settledAt (now (file .entry)) l b && isSome (written (valuation (now (held .entry))) v (bodyAt (now (file .entry)) l b))) ⌝ }
+    ensures { result ≡ (settled_at file.now l b && is_some (written (valuation held.now) v (body_at file.now l b))) }
 {
     let block = block_at(file, l, b);
     match block.kind {
@@ -120,7 +114,7 @@ fn block_writes(file: &[u8], l: Layout, held: &Held, b: u32, v: u32) -> bool
 
 // Whether a settled block gives variable `v` a value.
 pub(crate) fn gets_value(file: &[u8], l: Layout, held: &Held, v: u32) -> bool
-    ensures { λ r. ⌜ r ≡ gets (valuation (now (held .entry))) (designOf (now (file .entry)) l .settled) v ⌝ }
+    ensures { result ≡ gets (valuation held.now) (design_of file.now l).settled v }
 {
     let mut values = *held;
     for b in 0..l.count(Section::Blocks) {

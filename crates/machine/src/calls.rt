@@ -1,29 +1,20 @@
 //! The calls of a session.
-ghost use mathlib.Core.Path.{_≡_};
-ghost use mathlib.Core.Bool.{_||_};
-ghost use Prim.Native.Nat.{ℕ, _^_};
-ghost use lib.Dec.{ltb};
-ghost use Rattle·language.specs.Machine as machine;
-ghost use Rattle·language.specs.Machine.{opening, driven, step, drive, clock, reset, inside, gets, answer};
-ghost use Rattle·records.specs.Trees.{designOf};
-ghost use Rattle·machine·specs.Holding.{valuation};
-use crate::blocks::clocked;
-use crate::blocks::gets_value;
-use crate::blocks::settled;
-use crate::held::Held;
-use crate::held::MOST_VARIABLES;
-use crate::levels::clear;
-use crate::levels::level_at;
-use crate::levels::variable;
-use lattice::Lattice;
-use lattice::Level;
-use records::Kind;
-use records::Layout;
+ghost use Rattle.std.specs.Prelude.{◌≡◌, ℕ, ◌^◌, ◌||◌, nat_lt};
+ghost use Rattle.language.specs.Machine as machine;
+ghost use Rattle.language.specs.Machine.{opening, driven, step, drive, clock, reset, inside, gets, answer};
+ghost use Rattle.records.specs.Trees.{design_of};
+ghost use Rattle.machine.specs.Holding.{valuation};
+
+use crate::blocks::{clocked, gets_value, settled};
+use crate::held::{Held, MOST_VARIABLES};
+use crate::levels::{clear, level_at, variable};
+use lattice::{Lattice, Level};
+use records::{Kind, Layout};
 use refusal::Refusal;
 
 // The value of variable `v` at the opening.
 fn opening_at(file: &[u8], l: Layout, v: u32) -> u32
-    ensures { λ r. ⌜ r ≡ opening (designOf (now (file .entry)) l) v ⌝ }
+    ensures { result ≡ opening (design_of file.now l) v }
 {
     let Some(x) = variable(file, l, v) else {
         return 0;
@@ -36,7 +27,7 @@ fn opening_at(file: &[u8], l: Layout, v: u32) -> u32
 
 /// The values at the opening: 0 for ports, the reset values for registers.
 pub fn opening(file: &[u8], l: Layout) -> Held
-    ensures { λ r. ⌜ ((v : ℕ) → valuation r v ≡ opening (designOf (now (file .entry)) l) v) ⌝ }
+    ensures { (v : ℕ) → valuation result v ≡ opening (design_of file.now l) v }
 {
     let mut held = Held::new();
     for v in 0..MOST_VARIABLES {
@@ -47,7 +38,7 @@ pub fn opening(file: &[u8], l: Layout) -> Held
 
 /// Gives every port and register its value at the opening.
 pub fn reset(held: &mut Held, file: &[u8], l: Layout)
-    ensures { λ _. ⌜ ((v : ℕ) → valuation (now (held .exit)) v ≡ step (designOf (now (file .entry)) l) (valuation (now (held .entry))) reset v) ⌝ }
+    ensures { (v : ℕ) → valuation held.new v ≡ step (design_of file.now l) (valuation held.old) reset v }
 {
     *held = opening(file, l);
 }
@@ -55,7 +46,7 @@ pub fn reset(held: &mut Held, file: &[u8], l: Layout)
 /// One clock: the wires settle, the clocked blocks run on the values from before, all registers change together, and then
 /// what is to be cleared becomes 0.
 pub fn clock(held: &mut Held, file: &[u8], l: Layout)
-    ensures { λ _. ⌜ ((v : ℕ) → valuation (now (held .exit)) v ≡ step (designOf (now (file .entry)) l) (valuation (now (held .entry))) clock v) ⌝ }
+    ensures { (v : ℕ) → valuation held.new v ≡ step (design_of file.now l) (valuation held.old) clock v }
 {
     let before = settled(file, l, held);
     let next = clocked(file, l, &before, held);
@@ -64,7 +55,7 @@ pub fn clock(held: &mut Held, file: &[u8], l: Layout)
 
 // Whether `x` has no bit past the width.
 fn fits(x: u32, width: u8) -> bool
-    ensures { λ r. ⌜ r ≡ ltb x (2 ^ width) ⌝ }
+    ensures { result ≡ nat_lt x (2 ^ width) }
 {
     if width as u32 >= u32::BITS {
         return true;
@@ -74,7 +65,7 @@ fn fits(x: u32, width: u8) -> bool
 
 /// Whether a drive names a port and a value that fits it.
 pub fn driven(file: &[u8], l: Layout, v: u32, x: u32) -> Result<(), Refusal>
-    ensures { λ r. ⌜ r ≡ driven (designOf (now (file .entry)) l) v x ⌝ }
+    ensures { result ≡ driven (design_of file.now l) v x }
 {
     let Some(port) = variable(file, l, v) else {
         return Err(Refusal::NotAPort { number: v });
@@ -91,8 +82,8 @@ pub fn driven(file: &[u8], l: Layout, v: u32, x: u32) -> Result<(), Refusal>
 
 /// Sets a port, and then what is to be cleared becomes 0. A refused drive changes nothing.
 pub fn drive(held: &mut Held, file: &[u8], l: Layout, v: u32, x: u32) -> Result<(), Refusal>
-    ensures answer { λ r. ⌜ r ≡ driven (designOf (now (file .entry)) l) v x ⌝ }
-    ensures held { λ _. ⌜ ((u : ℕ) → valuation (now (held .exit)) u ≡ step (designOf (now (file .entry)) l) (valuation (now (held .entry))) (drive v x) u) ⌝ }
+    ensures answer { result ≡ driven (design_of file.now l) v x }
+    ensures held { (u : ℕ) → valuation held.new u ≡ step (design_of file.now l) (valuation held.old) (drive v x) u }
 {
     driven(file, l, v, x)?;
     let mut now = *held;
@@ -103,14 +94,14 @@ pub fn drive(held: &mut Held, file: &[u8], l: Layout, v: u32, x: u32) -> Result<
 
 // Whether `v` names a variable.
 fn is_variable(file: &[u8], l: Layout, v: u32) -> bool
-    ensures { λ r. ⌜ r ≡ inside (designOf (now (file .entry)) l) v ⌝ }
+    ensures { result ≡ inside (design_of file.now l) v }
 {
     variable(file, l, v).is_some()
 }
 
 // Whether variable `v` is a port or a register.
 fn is_held(file: &[u8], l: Layout, v: u32) -> bool
-    ensures { λ r. ⌜ r ≡ machine.held (designOf (now (file .entry)) l) v ⌝ }
+    ensures { result ≡ machine.held (design_of file.now l) v }
 {
     let Some(x) = variable(file, l, v) else {
         return false;
@@ -123,7 +114,7 @@ fn is_held(file: &[u8], l: Layout, v: u32) -> bool
 
 // Whether variable `v` is a port or a register, or a wire that a settled block gives a value.
 fn has_value(file: &[u8], l: Layout, held: &Held, v: u32) -> bool
-    ensures { λ r. ⌜ r ≡ (machine.held (designOf (now (file .entry)) l) v || gets (valuation (now (held .entry))) (designOf (now (file .entry)) l .settled) v) ⌝ }
+    ensures { result ≡ (machine.held (design_of file.now l) v || gets (valuation held.now) (design_of file.now l).settled v) }
 {
     if is_held(file, l, v) {
         return true;
@@ -140,7 +131,7 @@ pub fn answer<L: Lattice>(
     watcher: Level,
     v: u32,
 ) -> Result<(u32, Level), Refusal>
-    ensures { λ r. ⌜ r ≡ answer (meaning (now (lattice .entry))) (designOf (now (file .entry)) l) (valuation (now (held .entry))) watcher v ⌝ }
+    ensures { result ≡ answer (meaning lattice.now) (design_of file.now l) (valuation held.now) watcher v }
 {
     if !is_variable(file, l, v) {
         return Err(Refusal::NotAVariable { number: v });

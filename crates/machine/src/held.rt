@@ -1,8 +1,7 @@
 //! The values that a session holds.
-ghost use mathlib.Core.Path.{_≡_};
-ghost use Prim.Native.Nat.{ℕ};
-ghost use Rattle·language.specs.Machine.{put};
-ghost use Rattle·machine·specs.Holding.{valuation, Holds};
+ghost use Rattle.std.specs.Prelude.{◌≡◌, ℕ};
+ghost use Rattle.language.specs.Machine.{put};
+ghost use Rattle.machine.specs.Holding.{valuation, Holds};
 
 /// The most variables of a design.
 pub(crate) const MOST_VARIABLES: u32 = 128;
@@ -21,7 +20,7 @@ impl Held {
 
     /// The value of variable `v`; 0 where there is none.
     pub fn at(&self, v: u32) -> u32
-        ensures { λ r. ⌜ r ≡ valuation (now (self .entry)) v ⌝ }
+        ensures { result ≡ valuation self.now v }
     {
         if v < MOST_VARIABLES {
             self.values[v as usize]
@@ -32,7 +31,7 @@ impl Held {
 
     // Gives variable `v` the value `x`, if there is such a variable.
     pub(crate) fn set(&mut self, v: u32, x: u32)
-        ensures { λ _. ⌜ Holds (now (self .exit)) (put (valuation (now (self .entry))) v x) ⌝ }
+        ensures { Holds self.new (put (valuation self.old) v x) }
     {
         if v < MOST_VARIABLES {
             let i = v as usize;

@@ -1,19 +1,13 @@
 //! The levels of variables, and which of them are cleared.
-ghost use mathlib.Core.Path.{_≡_};
-ghost use Prim.Native.Nat.{ℕ};
-ghost use Rattle·std.specs.Options.{isSome};
-ghost use Rattle·language.specs.Syntax.{var, entry};
-ghost use Rattle·language.specs.Machine.{inside, level, cleared, clear};
-ghost use Rattle·records.specs.Trees.{designOf};
-ghost use Rattle·machine·specs.Holding.{valuation};
-ghost use Rattle·machine·specs.Labels.{variableShown, labelShown};
-use crate::held::Held;
-use crate::held::MOST_VARIABLES;
-use records::Form;
-use records::Layout;
-use records::Variable;
-use records::field;
-use records::variable_at;
+ghost use Rattle.std.specs.Prelude.{◌≡◌, ℕ, is_some};
+ghost use Rattle.language.specs.Syntax.{var, entry};
+ghost use Rattle.language.specs.Machine.{inside, level, cleared, clear};
+ghost use Rattle.records.specs.Trees.{design_of};
+ghost use Rattle.machine.specs.Holding.{valuation};
+ghost use Rattle.machine.specs.Labels.{variable_shown, label_shown};
+
+use crate::held::{Held, MOST_VARIABLES};
+use records::{Form, Layout, Variable, field, variable_at};
 use refusal::Section;
 
 // How many entries a table has.
@@ -28,8 +22,8 @@ pub(crate) enum Label {
 
 // Variable `v`, if the design has it.
 pub(crate) fn variable(file: &[u8], l: Layout, v: u32) -> Option<Variable>
-    ensures is { λ r. ⌜ var (designOf (now (file .entry)) l) v ≡ variableShown r ⌝ }
-    ensures inside { λ r. ⌜ isSome r ≡ inside (designOf (now (file .entry)) l) v ⌝ }
+    ensures is { var (design_of file.now l) v ≡ variable_shown result }
+    ensures inside { is_some result ≡ inside (design_of file.now l) v }
 {
     if v >= l.count(Section::Variables) {
         return None;
@@ -39,7 +33,7 @@ pub(crate) fn variable(file: &[u8], l: Layout, v: u32) -> Option<Variable>
 
 // What variable `v` is labelled by.
 fn label_at(file: &[u8], l: Layout, v: u32) -> Label
-    ensures { λ r. ⌜ var (designOf (now (file .entry)) l) v .label ≡ labelShown r ⌝ }
+    ensures { (var (design_of file.now l) v).label ≡ label_shown result }
 {
     let Some(x) = variable(file, l, v) else {
         return Label::Fixed { level: 0 };
@@ -55,7 +49,7 @@ fn label_at(file: &[u8], l: Layout, v: u32) -> Label
 
 // Entry `i` of a table; 0 where there is none.
 fn entry_at(file: &[u8], l: Layout, table: u8, i: u32) -> u32
-    ensures { λ r. ⌜ r ≡ entry (designOf (now (file .entry)) l) table i ⌝ }
+    ensures { result ≡ entry (design_of file.now l) table i }
 {
     if table as u32 >= l.count(Section::Tables) {
         return 0;
@@ -71,7 +65,7 @@ fn entry_at(file: &[u8], l: Layout, table: u8, i: u32) -> u32
 
 /// The level of variable `v` where variables have the values held.
 pub fn level_at(file: &[u8], l: Layout, held: &Held, v: u32) -> u32
-    ensures { λ r. ⌜ r ≡ level (designOf (now (file .entry)) l) (valuation (now (held .entry))) v ⌝ }
+    ensures { result ≡ level (design_of file.now l) (valuation held.now) v }
 {
     match label_at(file, l, v) {
         Label::Fixed { level } => level,
@@ -82,7 +76,7 @@ pub fn level_at(file: &[u8], l: Layout, held: &Held, v: u32) -> u32
 /// Whether variable `v` is cleared where `next` takes the place of `before`: another variable, which changes, looks up its
 /// level.
 pub fn is_cleared(file: &[u8], l: Layout, before: &Held, next: &Held, v: u32) -> bool
-    ensures { λ r. ⌜ r ≡ cleared (designOf (now (file .entry)) l) (valuation (now (before .entry))) (valuation (now (next .entry))) v ⌝ }
+    ensures { result ≡ cleared (design_of file.now l) (valuation before.now) (valuation next.now) v }
 {
     match label_at(file, l, v) {
         Label::Fixed { .. } => false,
@@ -93,7 +87,7 @@ pub fn is_cleared(file: &[u8], l: Layout, before: &Held, next: &Held, v: u32) ->
 
 // The value of variable `v` where `next` takes the place of `before`: 0 if it is cleared.
 fn kept_at(file: &[u8], l: Layout, before: &Held, next: &Held, v: u32) -> u32
-    ensures { λ r. ⌜ r ≡ clear (designOf (now (file .entry)) l) (valuation (now (before .entry))) (valuation (now (next .entry))) v ⌝ }
+    ensures { result ≡ clear (design_of file.now l) (valuation before.now) (valuation next.now) v }
 {
     if is_cleared(file, l, before, next, v) {
         return 0;
@@ -103,7 +97,7 @@ fn kept_at(file: &[u8], l: Layout, before: &Held, next: &Held, v: u32) -> u32
 
 /// The values `next`, which take the place of `before`, with 0 for what is cleared.
 pub fn clear(file: &[u8], l: Layout, before: &Held, next: &Held) -> Held
-    ensures { λ r. ⌜ ((v : ℕ) → valuation r v ≡ clear (designOf (now (file .entry)) l) (valuation (now (before .entry))) (valuation (now (next .entry))) v) ⌝ }
+    ensures { (v : ℕ) → valuation result v ≡ clear (design_of file.now l) (valuation before.now) (valuation next.now) v }
 {
     let mut held = Held::new();
     for v in 0..MOST_VARIABLES {

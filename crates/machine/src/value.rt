@@ -1,38 +1,29 @@
 //! The values of expressions.
-ghost use mathlib.Core.Path.{_≡_};
-ghost use Prim.Native.Nat.{ℕ, _≤_};
-ghost use Rattle·language.specs.Syntax.{width};
-ghost use Rattle·language.specs.Vectors.{«joined-above»};
-ghost use Rattle·language.specs.Machine.{eval};
-ghost use Rattle·vectors.specs.Operations as vector;
-ghost use Rattle·records.specs.Nodes.{LowerOperands};
-ghost use Rattle·records.specs.Trees as tree;
-ghost use Rattle·records.specs.Trees.{growExpr, exprAt};
-ghost use Rattle·machine·specs.Holding.{valuation, Wide, Sized, bitsOf};
+ghost use Rattle.std.specs.Prelude.{◌≡◌, ℕ, ◌≤◌};
+ghost use Rattle.language.specs.Syntax.{width};
+ghost use Rattle.language.specs.Vectors.{«joined_above»};
+ghost use Rattle.language.specs.Machine.{eval};
+ghost use Rattle.vectors.specs.Operations as vector;
+ghost use Rattle.records.specs.Nodes.{LowerOperands};
+ghost use Rattle.records.specs.Trees as tree;
+ghost use Rattle.records.specs.Trees.{grow_expr, expr_at};
+ghost use Rattle.machine.specs.Holding.{valuation, Wide, Sized, bits_of};
+
 use crate::held::Held;
-use records::Layout;
-use records::Node;
-use records::Pairing;
-use records::node_at;
-use vectors::Operation;
-use vectors::Width;
-use vectors::complement;
-use vectors::join_above;
-use vectors::operate;
-use vectors::part_from;
-use vectors::shift_left;
-use vectors::shift_right;
-use vectors::sum;
+use records::{Layout, Node, Pairing, node_at};
+use vectors::{
+    Operation, Width, complement, join_above, operate, part_from, shift_left, shift_right, sum,
+};
 
 fn wide(bits: u8) -> Width
-    requires { ⌜ Wide bits ⌝ }
-    ensures { λ r. ⌜ r .bits ≡ bits ⌝ }
+    requires { Wide bits }
+    ensures { result.bits ≡ bits }
 {
     Width::new(bits as u32).unwrap()
 }
 
 fn operation_of(by: Pairing) -> Operation
-    ensures { λ r. ⌜ vector.opOf r ≡ tree.opOf by ⌝ }
+    ensures { vector.op_of result ≡ tree.op_of by }
 {
     match by {
         Pairing::And => Operation::And,
@@ -46,7 +37,7 @@ fn operation_of(by: Pairing) -> Operation
 }
 
 fn bits_of(node: Node) -> u8
-    ensures { λ r. ⌜ r ≡ bitsOf node ⌝ }
+    ensures { result ≡ bits_of node }
 {
     match node {
         Node::Nothing => 0,
@@ -64,26 +55,26 @@ fn bits_of(node: Node) -> u8
 
 // What expression `e` is, with a width of 1 to 32.
 fn sized_at(file: &[u8], l: Layout, e: u32) -> Node
-    ensures lower { λ r. ⌜ LowerOperands r e ⌝ }
-    ensures tree { λ r. ⌜ exprAt (now (file .entry)) l e ≡ growExpr r (exprAt (now (file .entry)) l) ⌝ }
-    ensures sized { λ r. ⌜ Sized r ⌝ }
+    ensures lower { LowerOperands result e }
+    ensures tree { expr_at file.now l e ≡ grow_expr result (expr_at file.now l) }
+    ensures sized { Sized result }
 {
     node_at(file, l, e)
 }
 
 // The width of expression `e`; 0 where it is nothing.
 fn bits_at(file: &[u8], l: Layout, e: u32) -> u8
-    ensures is { λ r. ⌜ r ≡ width (exprAt (now (file .entry)) l e) ⌝ }
-    ensures most { λ r. ⌜ r ≤ 32 ⌝ }
+    ensures is { result ≡ width (expr_at file.now l e) }
+    ensures most { result ≤ 32 }
 {
     bits_of(sized_at(file, l, e))
 }
 
 // `x` above `y`, which is `low` wide.
 fn join(width: u8, low: u8, x: u32, y: u32) -> u32
-    requires { ⌜ Wide width ⌝ }
-    requires { ⌜ low ≤ 32 ⌝ }
-    ensures { λ r. ⌜ r ≡ «joined-above» width low x y ⌝ }
+    requires wide { Wide width }
+    requires low_bound { low ≤ 32 }
+    ensures { result ≡ «joined_above» width low x y }
 {
     if low == 0 {
         return sum(wide(width), x, y);
@@ -93,7 +84,7 @@ fn join(width: u8, low: u8, x: u32, y: u32) -> u32
 
 /// The value of expression `e` where variables have the values held.
 pub fn eval(file: &[u8], l: Layout, held: &Held, e: u32) -> u32
-    ensures { λ r. ⌜ r ≡ eval (valuation (now (held .entry))) (exprAt (now (file .entry)) l e) ⌝ }
+    ensures { result ≡ eval (valuation held.now) (expr_at file.now l e) }
 {
     match sized_at(file, l, e) {
         Node::Nothing => 0,

@@ -1,39 +1,33 @@
 -- The tables of the design that a file describes.
-use mathlib.Core.Path.{_≡_, ap, _∙_}
-use mathlib.Core.Logic.{⊎-elim}
-use mathlib.Core.List.{List, []}
-use Prim.Native.Nat.{ℕ, _*_, _<_, _≤_}
-use native.Mathlib.Nat.{zero-add}
-use native.Mathlib.Omega.{arith}
-use lib.ListN.{getD, length}
-use Rattle·std.proofs.shelf.Lists.{getD-past}
-use Rattle·std.proofs.shelf.Counted.{length-map-counting, getD-map-counting}
-use Rattle·std.proofs.shelf.Tests.{cases-lt}
-use Rattle·refusal.specs.declared.Section.the-variants.{Tables}
-use Rattle·language.specs.Syntax.{entry}
-use Rattle·records.specs.declared.layout.Layout.{Layout}
-use Rattle·records.specs.Bytes.{fieldOf}
-use Rattle·records.specs.Layouts.{recordOf, countIn}
-use Rattle·records.specs.Trees.{tableAt, designOf}
+use Rattle.std.proofs.Common.{◌≡◌, ℕ, ◌*◌, ◌<◌, ◌≤◌, List, [], length, get_or, ap, ◌∙◌, ⊎_elim, zero-add, arith}
+use Rattle.std.proofs.lemmas.List.{get_or_past}
+use Rattle.std.proofs.lemmas.List.FromFn.{length-map-range_with_len, get_or-map-range_with_len}
+use Rattle.std.proofs.lemmas.Bool.{cases_lt}
+use Rattle.refusal.specs.declared.Section.TheVariants.{Tables}
+use Rattle.language.specs.Syntax.{entry}
+use Rattle.records.specs.declared.layout.Layout.{Layout}
+use Rattle.records.specs.Bytes.{field_of}
+use Rattle.records.specs.Layouts.{record_of, count_in}
+use Rattle.records.specs.Trees.{table_at, design_of}
 
 module _ (f : List ℕ) (l : Layout) where
-  pub tables-is : length (designOf f l .tables) ≡ countIn l Tables
-  unfolding designOf
-  tables-is = length-map-counting (tableAt f l) 0 (countIn l Tables)
+  pub tables_is : length (design_of f l).tables ≡ count_in l Tables
+  unfolding design_of
+  tables_is = length-map-range_with_len (table_at f l) 0 (count_in l Tables)
 
-  table-is : (t : ℕ) → t < countIn l Tables → getD (designOf f l .tables) t [] ≡ tableAt f l t
-  unfolding designOf
-  table-is t h = getD-map-counting (tableAt f l) 0 (countIn l Tables) t t [] h (zero-add t)
+  table_is : (t : ℕ) → t < count_in l Tables → get_or (design_of f l).tables t [] ≡ table_at f l t
+  unfolding design_of
+  table_is t h = get_or-map-range_with_len (table_at f l) 0 (count_in l Tables) t t [] h (zero-add t)
 
-  pub entry-at : (t i : ℕ) → t < countIn l Tables → i < 16 → entry (designOf f l) t i ≡ fieldOf (recordOf f l Tables t) (4 * i)
-  entry-at t i h k =
-      ap (λ xs. getD xs i 0) (table-is t h) ∙ getD-map-counting (λ j. fieldOf (recordOf f l Tables t) (4 * j)) 0 16 i i 0 k (zero-add i)
+  pub entry_at : (t i : ℕ) → t < count_in l Tables → i < 16 → entry (design_of f l) t i ≡ field_of (record_of f l Tables t) (4 * i)
+  entry_at t i h k =
+      ap (λ xs. get_or xs i 0) (table_is t h) ∙ get_or-map-range_with_len (λ j. field_of (record_of f l Tables t) (4 * j)) 0 16 i i 0 k (zero-add i)
 
-  pub entry-no-table : (t i : ℕ) → countIn l Tables ≤ t → entry (designOf f l) t i ≡ 0
-  entry-no-table t i h = ap (λ xs. getD xs i 0) (getD-past (designOf f l .tables) t [] (omega (arith, tables-is, h))) ∙ getD-past [] i 0 (omega arith)
+  pub entry_no_table : (t i : ℕ) → count_in l Tables ≤ t → entry (design_of f l) t i ≡ 0
+  entry_no_table t i h = ap (λ xs. get_or xs i 0) (get_or_past (design_of f l).tables t [] (omega (arith, tables_is, h))) ∙ get_or_past [] i 0 (omega arith)
 
-  pub entry-past : (t i : ℕ) → 16 ≤ i → entry (designOf f l) t i ≡ 0
-  entry-past t i k =
-      ⊎-elim (λ h. ap (λ xs. getD xs i 0) (table-is t h)
-      ∙ getD-past (tableAt f l t) i 0 (omega (arith, k, length-map-counting (λ j. fieldOf (recordOf f l Tables t) (4 * j)) 0 16)))
-      (λ h. entry-no-table t i h) (cases-lt t (countIn l Tables))
+  pub entry_past : (t i : ℕ) → 16 ≤ i → entry (design_of f l) t i ≡ 0
+  entry_past t i k =
+      ⊎_elim (λ h. ap (λ xs. get_or xs i 0) (table_is t h)
+      ∙ get_or_past (table_at f l t) i 0 (omega (arith, k, length-map-range_with_len (λ j. field_of (record_of f l Tables t) (4 * j)) 0 16)))
+      (λ h. entry_no_table t i h) (cases_lt t (count_in l Tables))

@@ -1,16 +1,11 @@
 //! What a condition leaves to a variable, which variables an expression reads, and what a command assigns.
-ghost use mathlib.Core.Path.{_≡_};
-ghost use mathlib.Core.Bool.{_&&_, _||_};
-ghost use Rattle·language.specs.Form.{always};
-ghost use Rattle·language.specs.Typing.{shape, pins, equates, leaves};
-ghost use Rattle·records.specs.Trees.{exprAt, cmdAt};
-ghost use Rattle·paths·specs.Marks.{shapeOf};
-use records::Action;
-use records::Layout;
-use records::Node;
-use records::Pairing;
-use records::action_at;
-use records::node_at;
+ghost use Rattle.std.specs.Prelude.{◌≡◌, ◌&&◌, ◌||◌};
+ghost use Rattle.language.specs.Form.{always};
+ghost use Rattle.language.specs.Typing.{shape, pins, equates, leaves};
+ghost use Rattle.records.specs.Trees.{expr_at, cmd_at};
+ghost use Rattle.paths.specs.Marks.{shape_of};
+
+use records::{Action, Layout, Node, Pairing, action_at, node_at};
 
 /// What the rules look for in an expression: a constant, a single variable, or anything else.
 #[derive(Clone, Copy)]
@@ -22,7 +17,7 @@ pub enum Shape {
 
 /// The shape of expression `e`.
 pub fn shape_of(file: &[u8], l: Layout, e: u32) -> Shape
-    ensures { λ r. ⌜ shapeOf r ≡ shape (exprAt (now (file .entry)) l e) ⌝ }
+    ensures { shape_of result ≡ shape (expr_at file.now l e) }
 {
     match node_at(file, l, e) {
         Node::Nothing => Shape::Number { value: 0 },
@@ -39,20 +34,20 @@ pub fn shape_of(file: &[u8], l: Layout, e: u32) -> Shape
 }
 
 pub(crate) fn both(a: bool, b: bool) -> bool
-    ensures { λ r. ⌜ r ≡ (a && b) ⌝ }
+    ensures { result ≡ (a && b) }
 {
     a && b
 }
 
 pub(crate) fn either(a: bool, b: bool) -> bool
-    ensures { λ r. ⌜ r ≡ (a || b) ⌝ }
+    ensures { result ≡ (a || b) }
 {
     a || b
 }
 
 // Where a test of `u` against `n` comes out as `way`, whether `v` may be `x`.
 fn pins_value(way: bool, u: u32, n: u32, v: u32, x: u32) -> bool
-    ensures { λ r. ⌜ r ≡ pins way u n v x ⌝ }
+    ensures { result ≡ pins way u n v x }
 {
     if u != v {
         return true;
@@ -62,7 +57,7 @@ fn pins_value(way: bool, u: u32, n: u32, v: u32, x: u32) -> bool
 
 // The same where two expressions of these shapes are compared.
 fn equates_value(way: bool, a: Shape, b: Shape, v: u32, x: u32) -> bool
-    ensures { λ r. ⌜ r ≡ equates way (shapeOf a) (shapeOf b) v x ⌝ }
+    ensures { result ≡ equates way (shape_of a) (shape_of b) v x }
 {
     match a {
         Shape::Single { variable } => match b {
@@ -81,7 +76,7 @@ fn equates_value(way: bool, a: Shape, b: Shape, v: u32, x: u32) -> bool
 
 // Where condition `e` comes out as `way`, whether variable `v` may be `x`.
 pub(crate) fn leaves_value(file: &[u8], l: Layout, e: u32, way: bool, v: u32, x: u32) -> bool
-    ensures { λ r. ⌜ r ≡ leaves (exprAt (now (file .entry)) l e) way v x ⌝ }
+    ensures { result ≡ leaves (expr_at file.now l e) way v x }
 {
     match node_at(file, l, e) {
         Node::Variable { variable, .. } => pins_value(way, variable, 1, v, x),
@@ -130,7 +125,7 @@ pub(crate) fn leaves_value(file: &[u8], l: Layout, e: u32, way: bool, v: u32, x:
 
 /// Whether command `n` assigns variable `v` on every path.
 pub fn always_assigns(file: &[u8], l: Layout, n: u32, v: u32) -> bool
-    ensures { λ r. ⌜ r ≡ always (cmdAt (now (file .entry)) l n) v ⌝ }
+    ensures { result ≡ always (cmd_at file.now l n) v }
 {
     match action_at(file, l, n) {
         Action::Idle => false,

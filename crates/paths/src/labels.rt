@@ -1,15 +1,10 @@
 //! The variables and the tables of a design.
-ghost use mathlib.Core.Path.{_≡_};
-ghost use Prim.Native.Nat.{_≤_};
-ghost use lib.ListN.{length};
-ghost use Rattle·language.specs.Syntax.{count, var, entry};
-ghost use Rattle·records.specs.Trees.{variableOf, designOf};
-ghost use Rattle·paths·specs.Marks.{labelOf};
-use records::Form;
-use records::Layout;
-use records::Variable;
-use records::field;
-use records::variable_at;
+ghost use Rattle.std.specs.Prelude.{◌≡◌, ◌≤◌, length};
+ghost use Rattle.language.specs.Syntax.{count, var, entry};
+ghost use Rattle.records.specs.Trees.{variable_of, design_of};
+ghost use Rattle.paths.specs.Marks.{label_of};
+
+use records::{Form, Layout, Variable, field, variable_at};
 use refusal::Section;
 
 /// A variable's label: a level, or a table and a selector.
@@ -21,22 +16,22 @@ pub enum Label {
 
 /// How many variables the design has.
 pub fn variable_count(file: &[u8], l: Layout) -> u32
-    ensures is { λ r. ⌜ r ≡ count (designOf (now (file .entry)) l) ⌝ }
-    ensures most { λ r. ⌜ r ≤ 128 ⌝ }
+    ensures is { result ≡ count (design_of file.now l) }
+    ensures most { result ≤ 128 }
 {
     l.count(Section::Variables)
 }
 
 /// How many tables the design has.
 pub fn table_count(file: &[u8], l: Layout) -> u32
-    ensures { λ r. ⌜ r ≡ length (designOf (now (file .entry)) l .tables) ⌝ }
+    ensures { result ≡ length (design_of file.now l).tables }
 {
     l.count(Section::Tables)
 }
 
 // The label that a variable record has.
 fn label_from(x: Variable) -> Label
-    ensures { λ r. ⌜ labelOf r ≡ variableOf x .label ⌝ }
+    ensures { label_of result ≡ (variable_of x).label }
 {
     match x.form {
         Form::LookedUp => Label::LookedUp {
@@ -49,7 +44,7 @@ fn label_from(x: Variable) -> Label
 
 /// The label of variable `v`; of no variable, level 0.
 pub fn label_of(file: &[u8], l: Layout, v: u32) -> Label
-    ensures { λ r. ⌜ labelOf r ≡ var (designOf (now (file .entry)) l) v .label ⌝ }
+    ensures { label_of result ≡ (var (design_of file.now l) v).label }
 {
     if v < l.count(Section::Variables) {
         label_from(variable_at(file, l, v))
@@ -60,7 +55,7 @@ pub fn label_of(file: &[u8], l: Layout, v: u32) -> Label
 
 /// The width of variable `v`; of no variable, 0.
 pub fn width_of(file: &[u8], l: Layout, v: u32) -> u32
-    ensures { λ r. ⌜ r ≡ var (designOf (now (file .entry)) l) v .width ⌝ }
+    ensures { result ≡ (var (design_of file.now l) v).width }
 {
     if v < l.count(Section::Variables) {
         variable_at(file, l, v).width as u32
@@ -71,7 +66,7 @@ pub fn width_of(file: &[u8], l: Layout, v: u32) -> u32
 
 /// Entry `i` of table `t`; 0 where there is none.
 pub fn entry_of(file: &[u8], l: Layout, t: u32, i: u32) -> u32
-    ensures { λ r. ⌜ r ≡ entry (designOf (now (file .entry)) l) t i ⌝ }
+    ensures { result ≡ entry (design_of file.now l) t i }
 {
     if t >= l.count(Section::Tables) {
         return 0;

@@ -1,17 +1,13 @@
 //! Where levels come from.
-ghost use mathlib.Core.Path.{_≡_};
-ghost use Rattle·std.specs.Orderings.{Decides};
-ghost use Rattle·language.specs.Finite.{place-of, target-place, Tries, level-at, One};
-ghost use Rattle·records.specs.Trees.{designOf};
-ghost use Rattle·paths·specs.Marks.{labelOf, shapeOf, placeOf, setsOf};
+ghost use Rattle.std.specs.Prelude.{◌≡◌, Decides};
+ghost use Rattle.language.specs.Finite.{label_place, target_place, Tries, level_at, One};
+ghost use Rattle.records.specs.Trees.{design_of};
+ghost use Rattle.paths.specs.Marks.{label_of, shape_of, place_of, sets_of};
+
 use crate::conditions::Shape;
-use crate::labels::Label;
-use crate::labels::entry_of;
-use crate::labels::label_of;
-use crate::labels::width_of;
+use crate::labels::{Label, entry_of, label_of, width_of};
 use crate::path::ValueSets;
-use crate::values::fits_width;
-use crate::values::may;
+use crate::values::{fits_width, may};
 use records::Layout;
 
 /// Where a level comes from: it is fixed, or a table's entry at a variable's value, or at any value of a width.
@@ -24,7 +20,7 @@ pub enum Origin {
 
 /// Where a label's level comes from.
 pub fn origin_of(label: Label) -> Origin
-    ensures { λ r. ⌜ placeOf r ≡ place-of (labelOf label) ⌝ }
+    ensures { place_of result ≡ label_place (label_of label) }
 {
     match label {
         Label::Fixed { level } => Origin::Always { level },
@@ -37,7 +33,7 @@ pub fn origin_of(label: Label) -> Origin
 
 /// Where the level of `u` comes from, once it is assigned an expression of this shape.
 pub fn target_origin(file: &[u8], l: Layout, u: u32, shape: Shape) -> Origin
-    ensures { λ r. ⌜ placeOf r ≡ target-place (designOf (now (file .entry)) l) u (shapeOf shape) ⌝ }
+    ensures { place_of result ≡ target_place (design_of file.now l) u (shape_of shape) }
 {
     match label_of(file, l, u) {
         Label::Fixed { level } => Origin::Always { level },
@@ -65,7 +61,7 @@ pub fn target_origin(file: &[u8], l: Layout, u: u32, shape: Shape) -> Origin
 
 /// Whether `x` is a value to try at this origin.
 pub fn is_tried(file: &[u8], l: Layout, sets: &ValueSets, origin: Origin, x: u32) -> bool
-    ensures { λ r. ⌜ Decides r (Tries (designOf (now (file .entry)) l) (setsOf (now (sets .entry))) (placeOf origin) x) ⌝ }
+    ensures { Decides result (Tries (design_of file.now l) (sets_of sets.now) (place_of origin) x) }
 {
     match origin {
         Origin::Always { .. } => x == 0,
@@ -76,7 +72,7 @@ pub fn is_tried(file: &[u8], l: Layout, sets: &ValueSets, origin: Origin, x: u32
 
 /// The level at this origin, where the value is `x`.
 pub fn level_at(file: &[u8], l: Layout, origin: Origin, x: u32) -> u32
-    ensures { λ r. ⌜ r ≡ level-at (designOf (now (file .entry)) l) (placeOf origin) x ⌝ }
+    ensures { result ≡ level_at (design_of file.now l) (place_of origin) x }
 {
     match origin {
         Origin::Always { level } => level,
@@ -87,7 +83,7 @@ pub fn level_at(file: &[u8], l: Layout, origin: Origin, x: u32) -> u32
 
 /// Whether two values agree, where both origins look at one variable.
 pub fn are_one(p: Origin, q: Origin, x: u32, y: u32) -> bool
-    ensures { λ r. ⌜ Decides r (One (placeOf p) (placeOf q) x y) ⌝ }
+    ensures { Decides result (One (place_of p) (place_of q) x y) }
 {
     match p {
         Origin::Always { .. } => true,

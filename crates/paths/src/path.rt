@@ -1,19 +1,13 @@
 //! A path to an assignment: what the conditions on it leave, and what they read.
-ghost use mathlib.Core.Path.{_≡_};
-ghost use mathlib.Core.Bool.{true, cond, _&&_, _||_};
-ghost use mathlib.Core.List.{List, [], _∷_};
-ghost use Prim.Native.Nat.{ℕ, _<_};
-ghost use lib.Dec.{eqb};
-ghost use Rattle·language.specs.Form.{Way};
-ghost use Rattle·language.specs.Typing.{leaves};
-ghost use Rattle·language.specs.Finite.{mentions};
-ghost use Rattle·records.specs.Trees.{exprAt};
-ghost use Rattle·paths·specs.Marks.{setsOf, flagsOf, Adds, Narrows, Tracks};
-use crate::conditions::both;
-use crate::conditions::leaves_value;
-use records::Layout;
-use records::Node;
-use records::node_at;
+ghost use Rattle.std.specs.Prelude.{◌≡◌, ℕ, ◌<◌, true, ◌&&◌, ◌||◌, List, [], ◌∷◌, if◌then◌else◌, nat_eq};
+ghost use Rattle.language.specs.Form.{Way};
+ghost use Rattle.language.specs.Typing.{leaves};
+ghost use Rattle.language.specs.Finite.{mentions};
+ghost use Rattle.records.specs.Trees.{expr_at};
+ghost use Rattle.paths.specs.Marks.{sets_of, flags_of, Adds, Narrows, Tracks};
+
+use crate::conditions::{both, leaves_value};
+use records::{Layout, Node, node_at};
 
 /// Which values are left to each variable: the mark of `x` for variable `v` is number `16 * v + x`.
 pub type ValueSets = [bool; 2048];
@@ -30,7 +24,7 @@ pub struct Path {
 
 // Marks variable `v`, if a design can have it.
 fn mark(set: &mut VariableSet, v: u32)
-    ensures { λ _. ⌜ Adds (now (set .entry)) (now (set .exit)) (eqb v) ⌝ }
+    ensures { Adds set.old set.new (nat_eq v) }
 {
     let i = v as usize;
     if i < set.len() {
@@ -40,7 +34,7 @@ fn mark(set: &mut VariableSet, v: u32)
 
 // Marks the variables that expression `e` reads.
 fn mark_reads(set: &mut VariableSet, file: &[u8], l: Layout, e: u32)
-    ensures { λ _. ⌜ Adds (now (set .entry)) (now (set .exit)) (mentions (exprAt (now (file .entry)) l e)) ⌝ }
+    ensures { Adds set.old set.new (mentions (expr_at file.now l e)) }
 {
     match node_at(file, l, e) {
         Node::Nothing => {}
@@ -73,7 +67,7 @@ fn mark_reads(set: &mut VariableSet, file: &[u8], l: Layout, e: u32)
 
 /// The variables of a set, and those that expression `e` reads.
 pub fn gathered(file: &[u8], l: Layout, e: u32, set: &VariableSet) -> VariableSet
-    ensures { λ r. ⌜ ((v : ℕ) → v < 128 → flagsOf r v ≡ (mentions (exprAt (now (file .entry)) l e) v || flagsOf (now (set .entry)) v)) ⌝ }
+    ensures { (v : ℕ) → v < 128 → flags_of result v ≡ (mentions (expr_at file.now l e) v || flags_of set.now v) }
 {
     let mut all = *set;
     mark_reads(&mut all, file, l, e);
@@ -82,8 +76,8 @@ pub fn gathered(file: &[u8], l: Layout, e: u32, set: &VariableSet) -> VariableSe
 
 // Takes from variable `v` the values that condition `e` does not leave it where it comes out as `way`.
 fn narrow_variable(sets: &mut ValueSets, file: &[u8], l: Layout, e: u32, way: bool, v: u32)
-    requires { ⌜ v < 128 ⌝ }
-    ensures { λ _. ⌜ Narrows (now (sets .entry)) (now (sets .exit)) (λ u x. cond (eqb u v) (leaves (exprAt (now (file .entry)) l e) way u x) true) ⌝ }
+    requires { v < 128 }
+    ensures { Narrows sets.old sets.new (λ u x. (if nat_eq u v then leaves (expr_at file.now l e) way u x else true)) }
 {
     for x in 0..16u32 {
         let k = (16 * v + x) as usize;
@@ -93,7 +87,7 @@ fn narrow_variable(sets: &mut ValueSets, file: &[u8], l: Layout, e: u32, way: bo
 
 // The values that are left where condition `e` comes out as `way` besides. Of a variable that it does not read, all are.
 fn narrowed(file: &[u8], l: Layout, e: u32, way: bool, sets: &ValueSets) -> ValueSets
-    ensures { λ r. ⌜ ((v x : ℕ) → v < 128 → x < 16 → setsOf r v x ≡ (leaves (exprAt (now (file .entry)) l e) way v x && setsOf (now (sets .entry)) v x)) ⌝ }
+    ensures { (v x : ℕ) → v < 128 → x < 16 → sets_of result v x ≡ (leaves (expr_at file.now l e) way v x && sets_of sets.now v x) }
 {
     let read = gathered(file, l, e, &[false; 128]);
     let mut fewer = *sets;
@@ -108,7 +102,7 @@ fn narrowed(file: &[u8], l: Layout, e: u32, way: bool, sets: &ValueSets) -> Valu
 impl Path {
     /// The path without conditions.
     pub fn start() -> Path
-        ensures { λ r. ⌜ Tracks [] r ⌝ }
+        ensures { Tracks [] result }
     {
         Path {
             values: [true; 2048],
@@ -118,7 +112,7 @@ impl Path {
 
     /// The path that goes on where condition `e` comes out as `way`.
     pub fn past(&self, file: &[u8], l: Layout, e: u32, way: bool) -> Path
-        ensures { λ r. ⌜ ((path : List Way) → Tracks path (now (self .entry)) → Tracks ((exprAt (now (file .entry)) l e, way) ∷ path) r) ⌝ }
+        ensures { (path : List Way) → Tracks path self.now → Tracks ((expr_at file.now l e, way) ∷ path) result }
     {
         Path {
             values: narrowed(file, l, e, way, &self.values),

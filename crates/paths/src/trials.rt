@@ -1,11 +1,10 @@
 //! The values to try at an origin, and the levels there.
-ghost use Rattle·records.specs.Trees.{designOf};
-ghost use mathlib.Core.Path.{_≡_};
-ghost use Rattle·paths·specs.Marks.{setsOf};
-ghost use Rattle·paths·specs.Trying.{Tabled};
-use crate::origins::Origin;
-use crate::origins::is_tried;
-use crate::origins::level_at;
+ghost use Rattle.records.specs.Trees.{design_of};
+ghost use Rattle.std.specs.Prelude.{◌≡◌};
+ghost use Rattle.paths.specs.Marks.{sets_of};
+ghost use Rattle.paths.specs.Trying.{Tabled};
+
+use crate::origins::{Origin, is_tried, level_at};
 use crate::path::ValueSets;
 use records::Layout;
 
@@ -20,8 +19,8 @@ pub struct Trials {
 
 /// What is to be tried at this origin.
 pub fn trials_at(file: &[u8], l: Layout, sets: &ValueSets, origin: Origin) -> Trials
-    ensures origin { λ r. ⌜ r .origin ≡ origin ⌝ }
-    ensures tabled { λ r. ⌜ Tabled (designOf (now (file .entry)) l) (setsOf (now (sets .entry))) r ⌝ }
+    ensures origin { result.origin ≡ origin }
+    ensures tabled { Tabled (design_of file.now l) (sets_of sets.now) result }
 {
     let mut tried = [false; 16];
     let mut levels = [0; 16];

@@ -1,17 +1,16 @@
 //! The values that sets leave.
-ghost use Prim.Native.Nat.{ℕ, _<_, _^_};
-ghost use Rattle·std.specs.Orderings.{Decides};
-ghost use Rattle·language.specs.Finite.{May, Possible};
-ghost use Rattle·records.specs.Trees.{designOf};
-ghost use Rattle·paths·specs.Marks.{setsOf};
-use crate::labels::variable_count;
-use crate::labels::width_of;
+ghost use Rattle.std.specs.Prelude.{ℕ, ◌^◌, ◌<◌, Decides};
+ghost use Rattle.language.specs.Finite.{May, Possible};
+ghost use Rattle.records.specs.Trees.{design_of};
+ghost use Rattle.paths.specs.Marks.{sets_of};
+
+use crate::labels::{variable_count, width_of};
 use crate::path::ValueSets;
 use records::Layout;
 
 /// Whether `x` is a value of this width.
 pub fn fits_width(x: u32, width: u32) -> bool
-    ensures { λ r. ⌜ Decides r (x < 2 ^ width) ⌝ }
+    ensures { Decides result (x < 2 ^ width) }
 {
     if width > 31 {
         return true;
@@ -21,7 +20,7 @@ pub fn fits_width(x: u32, width: u32) -> bool
 
 /// Whether the sets leave variable `v` the value `x`.
 pub fn may(file: &[u8], l: Layout, sets: &ValueSets, v: u32, x: u32) -> bool
-    ensures { λ r. ⌜ Decides r (May (designOf (now (file .entry)) l) (setsOf (now (sets .entry))) v x) ⌝ }
+    ensures { Decides result (May (design_of file.now l) (sets_of sets.now) v x) }
 {
     if v >= variable_count(file, l) {
         return false;
@@ -37,7 +36,7 @@ pub fn may(file: &[u8], l: Layout, sets: &ValueSets, v: u32, x: u32) -> bool
 
 // Whether the sets leave variable `v` any value.
 fn may_any(file: &[u8], l: Layout, sets: &ValueSets, v: u32) -> bool
-    ensures { λ r. ⌜ Decides r ((x : ℕ) × May (designOf (now (file .entry)) l) (setsOf (now (sets .entry))) v x) ⌝ }
+    ensures { Decides result ((x : ℕ) × May (design_of file.now l) (sets_of sets.now) v x) }
 {
     for x in 0..16 {
         if may(file, l, sets, v, x) {
@@ -49,7 +48,7 @@ fn may_any(file: &[u8], l: Layout, sets: &ValueSets, v: u32) -> bool
 
 /// Whether no set is empty.
 pub fn is_possible(file: &[u8], l: Layout, sets: &ValueSets) -> bool
-    ensures { λ r. ⌜ Decides r (Possible (designOf (now (file .entry)) l) (setsOf (now (sets .entry)))) ⌝ }
+    ensures { Decides result (Possible (design_of file.now l) (sets_of sets.now)) }
 {
     let count = variable_count(file, l);
     for v in 0..count {

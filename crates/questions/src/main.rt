@@ -1,24 +1,10 @@
 //! Answers questions to lattices of every kind, one to a line: `LATTICE sign`, `LATTICE below A B` and their like.
 //! `T:11/01` is the table with these lines.
-use clearance::TableLattice;
 use clearance::read_table;
-use lattice::Chain;
-use lattice::ChainLattice;
-use lattice::Lattice;
-use lattice::Level;
-use lattice::Pair;
-use lattice::PairLattice;
-use lattice::Reversed;
-use lattice::ReversedLattice;
-use lattice::Sets;
-use lattice::SetsLattice;
-use lattice::pair_count;
+use lattice::{Chain, Lattice, Level, Pair, Reversed, Sets, pair_count};
 use refusal::Refusal;
-use refusal::RefusalDisplay;
-use std::alloc::AllocError;
-use std::alloc::Global;
-use std::fmt;
-use std::io;
+use std::alloc::{AllocError, Global};
+use std::{fmt, io};
 
 /// A question, with its levels.
 #[derive(Clone, Copy)]
@@ -43,7 +29,7 @@ enum Answer {
     Unknown,
 }
 
-impl fmt::Display for Answer as AnswerDisplay {
+impl fmt::Display for Answer {
     fn fmt<W: fmt::Write>(&self, f: &mut fmt::Formatter<W>) -> fmt::Result {
         match *self {
             Answer::Sign(letter) => write!(f, "{letter}"),
@@ -100,22 +86,20 @@ const PENTAGON: &[u8] = b"11111\n01011\n00101\n00011\n00001\n";
 
 // The lattices of one kind.
 fn ask_simple(name: &str, question: Question) -> Result<Option<Answer>, Refusal> {
-    Ok(Some(
-        match name {
-            "C0" => ask(&Chain::new(0)?, question),
-            "C1" => ask(&Chain::new(1)?, question),
-            "C2" => ask(&Chain::new(2)?, question),
-            "C5" => ask(&Chain::new(5)?, question),
-            "C65536" => ask(&Chain::new(65_536)?, question),
-            "C65537" => ask(&Chain::new(65_537)?, question),
-            "S0" => ask(&Sets::new(0)?, question),
-            "S3" => ask(&Sets::new(3)?, question),
-            "S16" => ask(&Sets::new(16)?, question),
-            "S17" => ask(&Sets::new(17)?, question),
-            "T5" => ask(&read_table(PENTAGON)?, question),
-            _ => return Ok(None),
-        },
-    ))
+    Ok(Some(match name {
+        "C0" => ask(&Chain::new(0)?, question),
+        "C1" => ask(&Chain::new(1)?, question),
+        "C2" => ask(&Chain::new(2)?, question),
+        "C5" => ask(&Chain::new(5)?, question),
+        "C65536" => ask(&Chain::new(65_536)?, question),
+        "C65537" => ask(&Chain::new(65_537)?, question),
+        "S0" => ask(&Sets::new(0)?, question),
+        "S3" => ask(&Sets::new(3)?, question),
+        "S16" => ask(&Sets::new(16)?, question),
+        "S17" => ask(&Sets::new(17)?, question),
+        "T5" => ask(&read_table(PENTAGON)?, question),
+        _ => return Ok(None),
+    }))
 }
 
 fn ask_pair<A: Lattice + Drop, B: Lattice + Drop>(
@@ -142,54 +126,50 @@ fn two_chains(m: u32, n: u32) -> Result<Pair<Chain, Chain>, Refusal> {
 }
 
 fn ask_pairs(name: &str, question: Question) -> Result<Option<Answer>, Refusal> {
-    Ok(Some(
-        match name {
-            "P(C2,S2)" => ask_pair(Chain::new(2)?, Sets::new(2)?, question)?,
-            "P(S8,S8)" => ask_pair(Sets::new(8)?, Sets::new(8)?, question)?,
-            "P(C300,C300)" => ask_pair(Chain::new(300)?, Chain::new(300)?, question)?,
-            "P(C65536,C65536)" => ask_pair(Chain::new(65_536)?, Chain::new(65_536)?, question)?,
-            "P(P(C2,C3),S1)" => ask_pair(two_chains(2, 3)?, Sets::new(1)?, question)?,
-            "P(C3,P(C2,S2))" => ask_pair(Chain::new(3)?, chain_and_sets(2, 2)?, question)?,
-            "P(T5,C2)" => ask_pair(read_table(PENTAGON)?, Chain::new(2)?, question)?,
-            _ => return Ok(None),
-        },
-    ))
+    Ok(Some(match name {
+        "P(C2,S2)" => ask_pair(Chain::new(2)?, Sets::new(2)?, question)?,
+        "P(S8,S8)" => ask_pair(Sets::new(8)?, Sets::new(8)?, question)?,
+        "P(C300,C300)" => ask_pair(Chain::new(300)?, Chain::new(300)?, question)?,
+        "P(C65536,C65536)" => ask_pair(Chain::new(65_536)?, Chain::new(65_536)?, question)?,
+        "P(P(C2,C3),S1)" => ask_pair(two_chains(2, 3)?, Sets::new(1)?, question)?,
+        "P(C3,P(C2,S2))" => ask_pair(Chain::new(3)?, chain_and_sets(2, 2)?, question)?,
+        "P(T5,C2)" => ask_pair(read_table(PENTAGON)?, Chain::new(2)?, question)?,
+        _ => return Ok(None),
+    }))
 }
 
 fn ask_reversed(name: &str, question: Question) -> Result<Option<Answer>, Refusal> {
-    Ok(Some(
-        match name {
-            "R(C5)" => ask(&Reversed { of: Chain::new(5)? }, question),
-            "R(S3)" => ask(&Reversed { of: Sets::new(3)? }, question),
-            "R(T5)" => ask(
-                &Reversed {
-                    of: read_table(PENTAGON)?,
-                },
-                question,
-            ),
-            "R(P(C2,S2))" => ask(
-                &Reversed {
-                    of: chain_and_sets(2, 2)?,
-                },
-                question,
-            ),
-            "R(P(C300,C300))" => ask(
-                &Reversed {
-                    of: two_chains(300, 300)?,
-                },
-                question,
-            ),
-            "R(R(S3))" => {
-                let of = Reversed { of: Sets::new(3)? };
-                ask(&Reversed { of }, question)
-            }
-            "P(R(C5),S2)" => {
-                let first = Reversed { of: Chain::new(5)? };
-                ask_pair(first, Sets::new(2)?, question)?
-            }
-            _ => return Ok(None),
-        },
-    ))
+    Ok(Some(match name {
+        "R(C5)" => ask(&Reversed { of: Chain::new(5)? }, question),
+        "R(S3)" => ask(&Reversed { of: Sets::new(3)? }, question),
+        "R(T5)" => ask(
+            &Reversed {
+                of: read_table(PENTAGON)?,
+            },
+            question,
+        ),
+        "R(P(C2,S2))" => ask(
+            &Reversed {
+                of: chain_and_sets(2, 2)?,
+            },
+            question,
+        ),
+        "R(P(C300,C300))" => ask(
+            &Reversed {
+                of: two_chains(300, 300)?,
+            },
+            question,
+        ),
+        "R(R(S3))" => {
+            let of = Reversed { of: Sets::new(3)? };
+            ask(&Reversed { of }, question)
+        }
+        "P(R(C5),S2)" => {
+            let first = Reversed { of: Chain::new(5)? };
+            ask_pair(first, Sets::new(2)?, question)?
+        }
+        _ => return Ok(None),
+    }))
 }
 
 // The text that a word spells, with `/` for each line end.
@@ -232,20 +212,18 @@ fn reply(heap: Global, line: &str) -> Result<Answer, AllocError> {
         }
         None => ask_named(name, question),
     };
-    Ok(
-        match answer {
-            Ok(answer) => answer,
-            Err(refusal) => Answer::Refused(refusal),
-        },
-    )
+    Ok(match answer {
+        Ok(answer) => answer,
+        Err(refusal) => Answer::Refused(refusal),
+    })
 }
 
-fn main(rt: LibcRuntime) -> io::Result<()> {
+fn main(rt: HostRuntime) -> io::Result<()> {
     for line in rt.lines(rt.alloc()) {
         let line = line?;
         let text = line.as_str();
         let answer = reply(rt.alloc(), text)?;
-        println!(rt, "{text} {answer}")?;
+        println!(rt; "{text} {answer}")?;
     }
     Ok(())
 }

@@ -1,34 +1,28 @@
 -- The least number that passes a test, met by a loop that counts up.
-use mathlib.Core.Path.{_≡_, refl, sym, ap, _∙_}
-use mathlib.Core.Bool.{Bool, true, false, cond}
-use mathlib.Core.Logic.{⊎-elim}
-use Prim.Native.Nat.{ℕ, zero, suc, _+_, _≤_, _<_}
-use native.Mathlib.Numerals.{add-one}
-use native.Mathlib.Omega.{arith}
-use Rattle·std.proofs.shelf.Tests.{cases-lt}
-use Rattle·std.specs.declared.option.Option.the-variants.{Some, None}
-use Rattle·records·specs.Layouts.{earliest, orElse}
+use Rattle.std.proofs.Common.{◌≡◌, ℕ, zero, suc, ◌+◌, ◌<◌, ◌≤◌, Bool, true, false, cond, Some, None, sym, refl, ap, ◌∙◌, ⊎_elim, add-one, arith}
+use Rattle.std.proofs.lemmas.Bool.{cases_lt}
+use Rattle.records.specs.Layouts.{earliest, or_else}
 
-pub earliest-none : (p : ℕ → Bool) → earliest p 0 ≡ None
+pub earliest_none : (p : ℕ → Bool) → earliest p 0 ≡ None
 unfolding earliest
-earliest-none p = refl
+earliest_none p = refl
 
-pub earliest-more : (p : ℕ → Bool) (i : ℕ) → earliest p i ≡ None → p i ≡ false → earliest p (i + 1) ≡ None
+pub earliest_more : (p : ℕ → Bool) (i : ℕ) → earliest p i ≡ None → p i ≡ false → earliest p (i + 1) ≡ None
 unfolding earliest
-earliest-more p i e h = rw (add-one, e, h) refl
+earliest_more p i e h = rw (add-one, e, h) refl
 
-earliest-here : (p : ℕ → Bool) (i : ℕ) → earliest p i ≡ None → p i ≡ true → earliest p (suc i) ≡ Some i
+earliest_here : (p : ℕ → Bool) (i : ℕ) → earliest p i ≡ None → p i ≡ true → earliest p (suc i) ≡ Some i
 unfolding earliest
-earliest-here p i e h = rw (e, h) refl
+earliest_here p i e h = rw (e, h) refl
 
-earliest-keeps : (p : ℕ → Bool) (k m n : ℕ) → earliest p m ≡ Some k → m ≤ n → earliest p n ≡ Some k
+earliest_keeps : (p : ℕ → Bool) (k m n : ℕ) → earliest p m ≡ Some k → m ≤ n → earliest p n ≡ Some k
 unfolding earliest
-earliest-keeps p k m zero e h = let z : m ≡ 0 = omega arith in sym (ap (earliest p) z) ∙ e
-earliest-keeps p k m (suc n) e h =
-    ⊎-elim
+earliest_keeps p k m zero e h = let z : m ≡ 0 = omega arith in sym (ap (earliest p) z) ∙ e
+earliest_keeps p k m (suc n) e h =
+    ⊎_elim
     (λ lt. let z : m ≡ suc n = omega arith in sym (ap (earliest p) z) ∙ e)
-    (λ le. ap (λ o. orElse o (cond (p n) (Some n) None)) (earliest-keeps p k m n e le))
-    (cases-lt n m)
+    (λ le. ap (λ o. or_else o (cond (p n) (Some n) None)) (earliest_keeps p k m n e le))
+    (cases_lt n m)
 
-pub earliest-found : (p : ℕ → Bool) (i n : ℕ) → earliest p i ≡ None → p i ≡ true → i < n → earliest p n ≡ Some i
-earliest-found p i n e h lt = earliest-keeps p i (suc i) n (earliest-here p i e h) lt
+pub earliest_found : (p : ℕ → Bool) (i n : ℕ) → earliest p i ≡ None → p i ≡ true → i < n → earliest p n ≡ Some i
+earliest_found p i n e h lt = earliest_keeps p i (suc i) n (earliest_here p i e h) lt

@@ -1,19 +1,15 @@
 -- Laws of what stands in a file's bytes.
-use mathlib.Core.Path.{_≡_, refl}
-use mathlib.Core.List.{List, [], _∷_}
-use Prim.Native.Nat.{ℕ, _-_, _≤_}
-use native.Mathlib.Omega.{arith}
-use lib.ListN.{drop, take, length, getD}
-use Rattle·std.proofs.shelf.Parts.{between-to-end}
-use Rattle·records·specs.Bytes.{fieldOf}
-use Rattle·records·specs.Cells.{kindFrom, formFrom, variableFrom}
+use Rattle.std.proofs.Common.{◌≡◌, ℕ, ◌-◌, ◌≤◌, List, [], ◌∷◌, length, get_or, take, drop, refl, arith}
+use Rattle.std.proofs.lemmas.Slice.{between_to_end}
+use Rattle.records.specs.Bytes.{field_of}
+use Rattle.records.specs.Cells.{kind_from, form_from, variable_from}
 
-pub rest-is : (s : List ℕ) (k : ℕ) → take (length s - k) (drop k s) ≡ drop k s
-rest-is s k = between-to-end s k (length s) (omega arith)
+pub rest_is : (s : List ℕ) (k : ℕ) → take (length s - k) (drop k s) ≡ drop k s
+rest_is s k = between_to_end s k (length s) (omega arith)
 
-pub variable-is : (s : List ℕ) → 4 ≤ length s → variableFrom s ≡ record { kind = kindFrom (getD s 0 0); width = getD s 1 0; form = formFrom (getD s 2 0); table = getD s 3 0; level = fieldOf (drop 4 s) 0; reset = fieldOf (drop 4 s) 4 }
-variable-is [] h = absurd (omega arith)
-variable-is (a ∷ []) h = absurd (omega arith)
-variable-is (a ∷ b ∷ []) h = absurd (omega arith)
-variable-is (a ∷ b ∷ c ∷ []) h = absurd (omega arith)
-variable-is (a ∷ b ∷ c ∷ d ∷ s) h = refl
+pub variable_is : (s : List ℕ) → 4 ≤ length s → variable_from s ≡ record { kind = kind_from (get_or s 0 0); width = get_or s 1 0; form = form_from (get_or s 2 0); table = get_or s 3 0; level = field_of (drop 4 s) 0; reset = field_of (drop 4 s) 4 }
+variable_is [] h = absurd (omega arith)
+variable_is (a ∷ []) h = absurd (omega arith)
+variable_is (a ∷ b ∷ []) h = absurd (omega arith)
+variable_is (a ∷ b ∷ c ∷ []) h = absurd (omega arith)
+variable_is (a ∷ b ∷ c ∷ d ∷ s) h = refl

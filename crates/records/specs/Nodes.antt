@@ -1,38 +1,35 @@
 -- What commands and expressions are. A record that is out of range is an idle command or no expression:
 -- an unknown operation, a target past the most variables, a width not 1 to 32, a constant or a shift too large, a part that is not lower, a number at or past the section's limit.
-use mathlib.Core.List.{List}
-use mathlib.Core.Bool.{cond, _&&_, _||_}
-use Prim.Native.Nat.{ℕ, _<_, _^_}
-use lib.Dec.{eqb, ltb}
-use Rattle·refusal.specs.declared.Section.the-variants.{Variables, Commands, Expressions}
-use Rattle·records·specs.Layouts.{limitOf}
-use Rattle·records·specs.Cells.{commandAt, expressionAt}
-use Rattle·records·specs.declared.layout.Layout.{Layout}
-use Rattle·records·specs.declared.cells.Step.{Step}
-use Rattle·records·specs.declared.cells.Step.the-variants as step
-use Rattle·records·specs.declared.cells.Command.{Command}
-use Rattle·records·specs.declared.cells.Operation.{Operation}
-use Rattle·records·specs.declared.cells.Operation.the-variants as op
-use Rattle·records·specs.declared.cells.Expression.{Expression}
-use Rattle·records·specs.declared.nodes.Action.{Action}
-use Rattle·records·specs.declared.nodes.Action.the-variants.{Idle, Both, Choose, Assign}
-use Rattle·records·specs.declared.nodes.Node.{Node}
-use Rattle·records·specs.declared.nodes.Node.the-variants as node
+use Rattle.std.specs.Prelude.{ℕ, ◌^◌, ◌<◌, cond, ◌&&◌, ◌||◌, List, ◌==◌, nat_lt}
+use Rattle.refusal.specs.declared.Section.TheVariants.{Variables, Commands, Expressions}
+use Rattle.records.specs.Layouts.{limit_of}
+use Rattle.records.specs.Cells.{command_at, expression_at}
+use Rattle.records.specs.declared.layout.Layout.{Layout}
+use Rattle.records.specs.declared.cells.Step.{Step}
+use Rattle.records.specs.declared.cells.Step.TheVariants as step
+use Rattle.records.specs.declared.cells.Command.{Command}
+use Rattle.records.specs.declared.cells.Operation.{Operation}
+use Rattle.records.specs.declared.cells.Operation.TheVariants as op
+use Rattle.records.specs.declared.cells.Expression.{Expression}
+use Rattle.records.specs.declared.nodes.Action.{Action}
+use Rattle.records.specs.declared.nodes.Action.TheVariants.{Idle, Both, Choose, Assign}
+use Rattle.records.specs.declared.nodes.Node.{Node}
+use Rattle.records.specs.declared.nodes.Node.TheVariants as node
 
 -- ---- commands
 
-abbrev pub actionBy : Step → (a b c n : ℕ) → Action
-actionBy step.Idle a b c n = Idle
-actionBy step.Both a b c n = cond (ltb a n && ltb b n) (Both a b) Idle
-actionBy step.Choose a b c n = cond (ltb b n && ltb c n) (Choose a b c) Idle
-actionBy step.Assign a b c n = cond (ltb a (limitOf Variables)) (Assign a b n) Idle
-actionBy step.Unknown a b c n = Idle
+abbrev pub action_by : Step → (a b c n : ℕ) → Action
+action_by step.Idle a b c n = Idle
+action_by step.Both a b c n = cond (nat_lt a n && nat_lt b n) (Both a b) Idle
+action_by step.Choose a b c n = cond (nat_lt b n && nat_lt c n) (Choose a b c) Idle
+action_by step.Assign a b c n = cond (nat_lt a (limit_of Variables)) (Assign a b n) Idle
+action_by step.Unknown a b c n = Idle
 
-abbrev pub actionOf : Command → ℕ → Action
-actionOf x n = actionBy (x .step) (x .a) (x .b) (x .c) n
+abbrev pub action_of : Command → ℕ → Action
+action_of x n = action_by x.step x.a x.b x.c n
 
-abbrev pub actionAt : List ℕ → Layout → ℕ → Action
-actionAt f l n = cond (ltb n (limitOf Commands)) (actionOf (commandAt f l n) n) Idle
+abbrev pub action_at : List ℕ → Layout → ℕ → Action
+action_at f l n = cond (nat_lt n (limit_of Commands)) (action_of (command_at f l n) n) Idle
 
 -- each part is lower
 abbrev pub LowerParts : Action → ℕ → Type 0
@@ -43,27 +40,27 @@ LowerParts (Assign v e k) n = Unit {0}
 
 -- ---- expressions
 
-abbrev pub operandBy : Operation → (w a b c n : ℕ) → Node
-operandBy op.Constant w a b c n = cond (ltb a (2 ^ w)) (node.Constant w a) node.Nothing
-operandBy op.Variable w a b c n = node.Variable w a n
-operandBy op.Not w a b c n = cond (ltb a n) (node.Not w a) node.Nothing
-operandBy (op.Pair o) w a b c n = cond (ltb a n && ltb b n) (node.Pair w o a b) node.Nothing
-operandBy op.ShiftLeft w a b c n = cond (ltb a n && ltb b w) (node.ShiftLeft w a b) node.Nothing
-operandBy op.ShiftRight w a b c n = cond (ltb a n && ltb b w) (node.ShiftRight w a b) node.Nothing
-operandBy op.Part w a b c n = cond (ltb a n) (node.Part w a b) node.Nothing
-operandBy op.Above w a b c n = cond (ltb a n && ltb b n) (node.Above w a b) node.Nothing
-operandBy op.Choose w a b c n = cond (ltb a n && (ltb b n && ltb c n)) (node.Choose w a b c) node.Nothing
-operandBy op.Unknown w a b c n = node.Nothing
+abbrev pub operand_by : Operation → (w a b c n : ℕ) → Node
+operand_by op.Constant w a b c n = cond (nat_lt a (2 ^ w)) (node.Constant w a) node.Nothing
+operand_by op.Variable w a b c n = node.Variable w a n
+operand_by op.Not w a b c n = cond (nat_lt a n) (node.Not w a) node.Nothing
+operand_by (op.Pair o) w a b c n = cond (nat_lt a n && nat_lt b n) (node.Pair w o a b) node.Nothing
+operand_by op.ShiftLeft w a b c n = cond (nat_lt a n && nat_lt b w) (node.ShiftLeft w a b) node.Nothing
+operand_by op.ShiftRight w a b c n = cond (nat_lt a n && nat_lt b w) (node.ShiftRight w a b) node.Nothing
+operand_by op.Part w a b c n = cond (nat_lt a n) (node.Part w a b) node.Nothing
+operand_by op.Above w a b c n = cond (nat_lt a n && nat_lt b n) (node.Above w a b) node.Nothing
+operand_by op.Choose w a b c n = cond (nat_lt a n && (nat_lt b n && nat_lt c n)) (node.Choose w a b c) node.Nothing
+operand_by op.Unknown w a b c n = node.Nothing
 
-abbrev pub operandOf : Expression → ℕ → Node
-operandOf x n = operandBy (x .operation) (x .width) (x .a) (x .b) (x .c) n
+abbrev pub operand_of : Expression → ℕ → Node
+operand_of x n = operand_by x.operation x.width x.a x.b x.c n
 
 -- a width is 1 to 32
-abbrev pub nodeOf : Expression → ℕ → Node
-nodeOf x n = cond (eqb (x .width) 0 || ltb 32 (x .width)) node.Nothing (operandOf x n)
+abbrev pub node_of : Expression → ℕ → Node
+node_of x n = cond (x.width == 0 || nat_lt 32 x.width) node.Nothing (operand_of x n)
 
-abbrev pub nodeAt : List ℕ → Layout → ℕ → Node
-nodeAt f l n = cond (ltb n (limitOf Expressions)) (nodeOf (expressionAt f l n) n) node.Nothing
+abbrev pub node_at : List ℕ → Layout → ℕ → Node
+node_at f l n = cond (nat_lt n (limit_of Expressions)) (node_of (expression_at f l n) n) node.Nothing
 
 -- each part is lower
 abbrev pub LowerOperands : Node → ℕ → Type 0

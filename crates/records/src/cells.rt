@@ -1,8 +1,8 @@
 //! The records of each section, as their bytes have them.
-ghost use mathlib.Core.Path.{_≡_};
-ghost use Rattle·records·specs.Cells.{kindFrom, formFrom, blockKindFrom, stepFrom, operationFrom, variableFrom, blockFrom, commandFrom, expressionFrom, variableAt, blockAt, commandAt, expressionAt};
-use crate::bytes::byte;
-use crate::bytes::field;
+ghost use Rattle.std.specs.Prelude.{◌≡◌};
+ghost use Rattle.records.specs.Cells.{kind_from, form_from, block_kind_from, step_from, operation_from, variable_from, block_from, command_from, expression_from, variable_at, block_at, command_at, expression_at};
+
+use crate::bytes::{byte, field};
 use crate::layout::Layout;
 use refusal::Section;
 
@@ -110,7 +110,7 @@ pub struct Expression {
 }
 
 fn kind_from(code: u8) -> Kind
-    ensures { λ r. ⌜ r ≡ kindFrom code ⌝ }
+    ensures { result ≡ kind_from code }
 {
     match code {
         0 => Kind::Port,
@@ -121,7 +121,7 @@ fn kind_from(code: u8) -> Kind
 }
 
 fn form_from(code: u8) -> Form
-    ensures { λ r. ⌜ r ≡ formFrom code ⌝ }
+    ensures { result ≡ form_from code }
 {
     match code {
         0 => Form::Fixed,
@@ -131,7 +131,7 @@ fn form_from(code: u8) -> Form
 }
 
 fn block_kind_from(code: u32) -> BlockKind
-    ensures { λ r. ⌜ r ≡ blockKindFrom code ⌝ }
+    ensures { result ≡ block_kind_from code }
 {
     match code {
         0 => BlockKind::Settled,
@@ -141,7 +141,7 @@ fn block_kind_from(code: u32) -> BlockKind
 }
 
 fn step_from(code: u32) -> Step
-    ensures { λ r. ⌜ r ≡ stepFrom code ⌝ }
+    ensures { result ≡ step_from code }
 {
     match code {
         0 => Step::Idle,
@@ -153,7 +153,7 @@ fn step_from(code: u32) -> Step
 }
 
 fn operation_from(code: u8) -> Operation
-    ensures { λ r. ⌜ r ≡ operationFrom code ⌝ }
+    ensures { result ≡ operation_from code }
 {
     match code {
         0 => Operation::Constant,
@@ -177,7 +177,7 @@ fn operation_from(code: u8) -> Operation
 
 // The variable record that `part` begins with. One that is cut short counts as zeros.
 fn read_variable(part: &[u8]) -> Variable
-    ensures { λ r. ⌜ r ≡ variableFrom (now (part .entry)) ⌝ }
+    ensures { result ≡ variable_from part.now }
 {
     match part {
         [kind, width, form, table, rest @ ..] => Variable {
@@ -201,7 +201,7 @@ fn read_variable(part: &[u8]) -> Variable
 
 // The block record that `part` begins with.
 fn read_block(part: &[u8]) -> Block
-    ensures { λ r. ⌜ r ≡ blockFrom (now (part .entry)) ⌝ }
+    ensures { result ≡ block_from part.now }
 {
     Block {
         kind: block_kind_from(field(part, 0)),
@@ -211,7 +211,7 @@ fn read_block(part: &[u8]) -> Block
 
 // The command record that `part` begins with.
 fn read_command(part: &[u8]) -> Command
-    ensures { λ r. ⌜ r ≡ commandFrom (now (part .entry)) ⌝ }
+    ensures { result ≡ command_from part.now }
 {
     Command {
         step: step_from(field(part, 0)),
@@ -223,7 +223,7 @@ fn read_command(part: &[u8]) -> Command
 
 // The expression record that `part` begins with.
 fn read_expression(part: &[u8]) -> Expression
-    ensures { λ r. ⌜ r ≡ expressionFrom (now (part .entry)) ⌝ }
+    ensures { result ≡ expression_from part.now }
 {
     Expression {
         operation: operation_from(byte(part, 0)),
@@ -238,28 +238,28 @@ fn read_expression(part: &[u8]) -> Expression
 
 /// Variable record `n`.
 pub fn variable_at(file: &[u8], l: Layout, n: u32) -> Variable
-    ensures { λ r. ⌜ r ≡ variableAt (now (file .entry)) l n ⌝ }
+    ensures { result ≡ variable_at file.now l n }
 {
     read_variable(l.record(file, Section::Variables, n))
 }
 
 /// Block record `n`.
 pub fn block_at(file: &[u8], l: Layout, n: u32) -> Block
-    ensures { λ r. ⌜ r ≡ blockAt (now (file .entry)) l n ⌝ }
+    ensures { result ≡ block_at file.now l n }
 {
     read_block(l.record(file, Section::Blocks, n))
 }
 
 /// Command record `n`.
 pub fn command_at(file: &[u8], l: Layout, n: u32) -> Command
-    ensures { λ r. ⌜ r ≡ commandAt (now (file .entry)) l n ⌝ }
+    ensures { result ≡ command_at file.now l n }
 {
     read_command(l.record(file, Section::Commands, n))
 }
 
 /// Expression record `n`.
 pub fn expression_at(file: &[u8], l: Layout, n: u32) -> Expression
-    ensures { λ r. ⌜ r ≡ expressionAt (now (file .entry)) l n ⌝ }
+    ensures { result ≡ expression_at file.now l n }
 {
     read_expression(l.record(file, Section::Expressions, n))
 }

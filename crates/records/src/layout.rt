@@ -1,13 +1,10 @@
 //! Where the sections of a design file lie.
-ghost use mathlib.Core.Path.{_≡_};
-ghost use Prim.Native.Nat.{_<_, _≤_};
-ghost use lib.ListN.{length};
-ghost use Rattle·refusal.specs.Notice.{sectionNumber};
-ghost use Rattle·records·specs.Layouts.{sectionCount, sectionAt, limitOf, startOf, offsetOf, lengthOf, breaks, over, earliest, broken, exceeded, layoutOf, countOf, sectionOf, recordOf, countIn};
-use crate::bytes::field;
-use crate::bytes::part_from;
-use refusal::Refusal;
-use refusal::Section;
+ghost use Rattle.std.specs.Prelude.{◌≡◌, ◌<◌, ◌≤◌, length};
+ghost use Rattle.refusal.specs.Notice.{section_number};
+ghost use Rattle.records.specs.Layouts.{section_count, section_at, limit_of, start_of, offset_of, length_of, breaks, over, earliest, broken, exceeded, layout_of, count_of, section_of, record_of, count_in};
+
+use crate::bytes::{field, part_from};
+use refusal::{Refusal, Section};
 
 /// How many sections a design file has.
 pub const SECTION_COUNT: usize = 5;
@@ -29,8 +26,8 @@ pub struct Layout {
 
 // The place of a section in the file.
 fn index_of(section: Section) -> usize
-    ensures is { λ r. ⌜ r ≡ sectionNumber section ⌝ }
-    ensures low { λ r. ⌜ r < sectionCount ⌝ }
+    ensures is { result ≡ section_number section }
+    ensures low { result < section_count }
 {
     match section {
         Section::Tables => 0,
@@ -43,7 +40,7 @@ fn index_of(section: Section) -> usize
 
 /// The section at a place in the file; the last one past the end.
 pub fn section_at(i: usize) -> Section
-    ensures { λ r. ⌜ r ≡ sectionAt i ⌝ }
+    ensures { result ≡ section_at i }
 {
     match i {
         0 => Section::Tables,
@@ -55,23 +52,23 @@ pub fn section_at(i: usize) -> Section
 }
 
 fn offset(file: &[u8], i: usize) -> u32
-    requires { ⌜ i < sectionCount ⌝ }
-    ensures { λ r. ⌜ r ≡ offsetOf (now (file .entry)) i ⌝ }
+    requires { i < section_count }
+    ensures { result ≡ offset_of file.now i }
 {
     field(file, 8 * i + 4)
 }
 
 fn len(file: &[u8], i: usize) -> u32
-    requires { ⌜ i < sectionCount ⌝ }
-    ensures { λ r. ⌜ r ≡ lengthOf (now (file .entry)) i ⌝ }
+    requires { i < section_count }
+    ensures { result ≡ length_of file.now i }
 {
     field(file, 8 * i + 8)
 }
 
 // Where section `i` has to begin.
 fn start(file: &[u8], i: usize) -> u64
-    requires { ⌜ i < sectionCount ⌝ }
-    ensures { λ r. ⌜ r ≡ startOf (now (file .entry)) i ⌝ }
+    requires { i < section_count }
+    ensures { result ≡ start_of file.now i }
 {
     if i == 0 {
         HEAD_LEN as u64
@@ -82,8 +79,8 @@ fn start(file: &[u8], i: usize) -> u64
 
 // Whether pair `i` breaks the layout.
 fn pair_breaks(file: &[u8], i: usize) -> bool
-    requires { ⌜ i < sectionCount ⌝ }
-    ensures { λ r. ⌜ r ≡ breaks (now (file .entry)) i ⌝ }
+    requires { i < section_count }
+    ensures { result ≡ breaks file.now i }
 {
     let (size, _) = SECTIONS[i];
     let begin = offset(file, i) as u64;
@@ -98,8 +95,8 @@ fn pair_breaks(file: &[u8], i: usize) -> bool
 
 // How many records section `i` has.
 fn count(file: &[u8], i: usize) -> u32
-    requires { ⌜ i < sectionCount ⌝ }
-    ensures { λ r. ⌜ r ≡ countOf (now (file .entry)) i ⌝ }
+    requires { i < section_count }
+    ensures { result ≡ count_of file.now i }
 {
     let (size, _) = SECTIONS[i];
     len(file, i) / size
@@ -107,8 +104,8 @@ fn count(file: &[u8], i: usize) -> u32
 
 // Whether section `i` has too many records.
 fn section_over(file: &[u8], i: usize) -> bool
-    requires { ⌜ i < sectionCount ⌝ }
-    ensures { λ r. ⌜ r ≡ over (now (file .entry)) i ⌝ }
+    requires { i < section_count }
+    ensures { result ≡ over file.now i }
 {
     let (_, limit) = SECTIONS[i];
     limit < count(file, i)
@@ -116,7 +113,7 @@ fn section_over(file: &[u8], i: usize) -> bool
 
 // Refuses the first pair that breaks the layout.
 fn check_pairs(file: &[u8]) -> Result<(), Refusal>
-    ensures { λ r. ⌜ r ≡ broken (earliest (breaks (now (file .entry))) sectionCount) ⌝ }
+    ensures { result ≡ broken (earliest (breaks file.now) section_count) }
 {
     for i in 0..SECTION_COUNT {
         if pair_breaks(file, i) {
@@ -130,7 +127,7 @@ fn check_pairs(file: &[u8]) -> Result<(), Refusal>
 
 // Refuses the first section that has too many records.
 fn check_limits(file: &[u8]) -> Result<(), Refusal>
-    ensures { λ r. ⌜ r ≡ exceeded (earliest (over (now (file .entry))) sectionCount) ⌝ }
+    ensures { result ≡ exceeded (earliest (over file.now) section_count) }
 {
     for i in 0..SECTION_COUNT {
         if section_over(file, i) {
@@ -144,7 +141,7 @@ fn check_limits(file: &[u8]) -> Result<(), Refusal>
 
 /// Finds the sections of a design file, or refuses it.
 pub fn layout_of(file: &[u8]) -> Result<Layout, Refusal>
-    ensures { λ r. ⌜ r ≡ layoutOf (now (file .entry)) ⌝ }
+    ensures { result ≡ layout_of file.now }
 {
     if file.len() < HEAD_LEN {
         return Err(Refusal::TooShort);
@@ -174,7 +171,7 @@ pub fn layout_of(file: &[u8]) -> Result<Layout, Refusal>
 
 /// The most records of a section.
 pub fn limit_of(section: Section) -> u32
-    ensures { λ r. ⌜ r ≡ limitOf section ⌝ }
+    ensures { result ≡ limit_of section }
 {
     let (_, limit) = SECTIONS[index_of(section)];
     limit
@@ -183,22 +180,22 @@ pub fn limit_of(section: Section) -> u32
 impl Layout {
     /// How many records a section has, its limit at most.
     pub fn count(self, section: Section) -> u32
-        ensures is { λ r. ⌜ r ≡ countIn self section ⌝ }
-        ensures most { λ r. ⌜ r ≤ limitOf section ⌝ }
+        ensures is { result ≡ count_in self section }
+        ensures most { result ≤ limit_of section }
     {
         self.counts[index_of(section)].min(limit_of(section))
     }
 
     /// A section, with all that follows it.
     pub fn part(self, file: &[u8], section: Section) -> &[u8]
-        ensures { λ r. ⌜ now r ≡ sectionOf (now (file .entry)) self section ⌝ }
+        ensures { result.now ≡ section_of file.now self section }
     {
         part_from(file, self.offsets[index_of(section)] as usize)
     }
 
     /// Record `n` of a section, with all that follows it.
     pub fn record(self, file: &[u8], section: Section, n: u32) -> &[u8]
-        ensures { λ r. ⌜ now r ≡ recordOf (now (file .entry)) self section n ⌝ }
+        ensures { result.now ≡ record_of file.now self section n }
     {
         let (size, _) = SECTIONS[index_of(section)];
         part_from(self.part(file, section), size as usize * n as usize)

@@ -4,29 +4,10 @@ mod cells;
 mod layout;
 mod nodes;
 
-pub use bytes::byte;
-pub use bytes::field;
-pub use bytes::part_from;
-pub use cells::Block;
-pub use cells::BlockKind;
-pub use cells::Command;
-pub use cells::Expression;
-pub use cells::Form;
-pub use cells::Kind;
-pub use cells::Operation;
-pub use cells::Pairing;
-pub use cells::Step;
-pub use cells::Variable;
-pub use cells::block_at;
-pub use cells::command_at;
-pub use cells::expression_at;
-pub use cells::variable_at;
-pub use layout::Layout;
-pub use layout::SECTION_COUNT;
-pub use layout::layout_of;
-pub use layout::limit_of;
-pub use layout::section_at;
-pub use nodes::Action;
-pub use nodes::Node;
-pub use nodes::action_at;
-pub use nodes::node_at;
+pub use bytes::{byte, field, part_from};
+pub use cells::{
+    Block, BlockKind, Command, Expression, Form, Kind, Operation, Pairing, Step, Variable,
+    block_at, command_at, expression_at, variable_at,
+};
+pub use layout::{Layout, SECTION_COUNT, layout_of, limit_of, section_at};
+pub use nodes::{Action, Node, action_at, node_at};

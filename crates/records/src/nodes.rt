@@ -1,17 +1,10 @@
 //! What commands and expressions are: each record with its parts, which are records with lower numbers.
-ghost use mathlib.Core.Path.{_≡_};
-ghost use Prim.Native.Nat.{_≤_};
-ghost use Rattle·records·specs.Nodes.{actionOf, operandOf, nodeOf, LowerParts, LowerOperands};
-ghost use Rattle·records·specs.Trees.{growExpr, growCmd, exprAt, cmdAt};
-use crate::cells::Command;
-use crate::cells::Expression;
-use crate::cells::Operation;
-use crate::cells::Pairing;
-use crate::cells::Step;
-use crate::cells::command_at;
-use crate::cells::expression_at;
-use crate::layout::Layout;
-use crate::layout::limit_of;
+ghost use Rattle.std.specs.Prelude.{◌≡◌, ◌≤◌};
+ghost use Rattle.records.specs.Nodes.{action_of, operand_of, node_of, LowerParts, LowerOperands};
+ghost use Rattle.records.specs.Trees.{grow_expr, grow_cmd, expr_at, cmd_at};
+
+use crate::cells::{Command, Expression, Operation, Pairing, Step, command_at, expression_at};
+use crate::layout::{Layout, limit_of};
 use refusal::Section;
 
 /// A command; its parts are record numbers.
@@ -90,8 +83,8 @@ pub enum Node {
 
 // What command record `n` does; one out of range does nothing.
 fn action_of(x: Command, n: u32) -> Action
-    ensures is { λ r. ⌜ r ≡ actionOf x n ⌝ }
-    ensures lower { λ r. ⌜ LowerParts r n ⌝ }
+    ensures is { result ≡ action_of x n }
+    ensures lower { LowerParts result n }
 {
     match x.step {
         Step::Both if x.a < n && x.b < n => Action::Both {
@@ -114,9 +107,9 @@ fn action_of(x: Command, n: u32) -> Action
 
 // What expression record `n` is, where its width is 1 to 32.
 fn operand_of(x: Expression, n: u32) -> Node
-    requires { ⌜ x .width ≤ 32 ⌝ }
-    ensures is { λ r. ⌜ r ≡ operandOf x n ⌝ }
-    ensures lower { λ r. ⌜ LowerOperands r n ⌝ }
+    requires { x.width ≤ 32 }
+    ensures is { result ≡ operand_of x n }
+    ensures lower { LowerOperands result n }
 {
     let width = x.width;
     let one = x.a < n;
@@ -168,8 +161,8 @@ fn operand_of(x: Expression, n: u32) -> Node
 
 // What expression record `n` is; one out of range is nothing.
 fn node_of(x: Expression, n: u32) -> Node
-    ensures is { λ r. ⌜ r ≡ nodeOf x n ⌝ }
-    ensures lower { λ r. ⌜ LowerOperands r n ⌝ }
+    ensures is { result ≡ node_of x n }
+    ensures lower { LowerOperands result n }
 {
     if x.width == 0 || x.width > 32 {
         return Node::Nothing;
@@ -179,8 +172,8 @@ fn node_of(x: Expression, n: u32) -> Node
 
 /// What command `n` does.
 pub fn action_at(file: &[u8], l: Layout, n: u32) -> Action
-    ensures lower { λ r. ⌜ LowerParts r n ⌝ }
-    ensures tree { λ r. ⌜ cmdAt (now (file .entry)) l n ≡ growCmd (exprAt (now (file .entry)) l) r (cmdAt (now (file .entry)) l) ⌝ }
+    ensures lower { LowerParts result n }
+    ensures tree { cmd_at file.now l n ≡ grow_cmd (expr_at file.now l) result (cmd_at file.now l) }
 {
     if n >= limit_of(Section::Commands) {
         return Action::Idle;
@@ -190,8 +183,8 @@ pub fn action_at(file: &[u8], l: Layout, n: u32) -> Action
 
 /// What expression `n` is.
 pub fn node_at(file: &[u8], l: Layout, n: u32) -> Node
-    ensures lower { λ r. ⌜ LowerOperands r n ⌝ }
-    ensures tree { λ r. ⌜ exprAt (now (file .entry)) l n ≡ growExpr r (exprAt (now (file .entry)) l) ⌝ }
+    ensures lower { LowerOperands result n }
+    ensures tree { expr_at file.now l n ≡ grow_expr result (expr_at file.now l) }
 {
     if n >= limit_of(Section::Expressions) {
         return Node::Nothing;

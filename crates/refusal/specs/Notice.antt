@@ -1,12 +1,9 @@
 -- What a refusal tells its caller: its number, and the section and the record that it is about.
-use mathlib.Core.List.{List, _++_}
-use Prim.Native.Nat.{ℕ}
-use lib.Chars.{codes}
-use Rattle·std.specs.Written.{decimal}
-use Rattle·refusal·specs.declared.Section.{Section}
-use Rattle·refusal·specs.declared.Section.the-variants.{Tables, Variables, Blocks, Commands, Expressions}
-use Rattle·refusal·specs.declared.Refusal.{Refusal}
-use Rattle·refusal·specs.declared.Refusal.the-variants.{TooShort, UnknownEdition, BrokenLayout, OverLimit, OutOfRange, Misused, WidthMismatch, BadAssignment, EarlyRead, BadSelector, NoLevel, SelectorTooHigh, FlowTooHigh, ConditionTooHigh, NotAPort, ValueTooWide, NotAVariable, NotAWatcher, NoValue, Hidden, OutsideLimits, NotALattice}
+use Rattle.std.specs.Prelude.{ℕ, List, ◌++◌, codes, decimal}
+use Rattle.refusal.specs.declared.Section.{Section}
+use Rattle.refusal.specs.declared.Section.TheVariants.{Tables, Variables, Blocks, Commands, Expressions}
+use Rattle.refusal.specs.declared.Refusal.{Refusal}
+use Rattle.refusal.specs.declared.Refusal.TheVariants.{TooShort, UnknownEdition, BrokenLayout, OverLimit, OutOfRange, Misused, WidthMismatch, BadAssignment, EarlyRead, BadSelector, NoLevel, SelectorTooHigh, FlowTooHigh, ConditionTooHigh, NotAPort, ValueTooWide, NotAVariable, NotAWatcher, NoValue, Hidden, OutsideLimits, NotALattice}
 
 pub record Notice : Type 0 where
   pub number : ℕ
@@ -17,25 +14,25 @@ abbrev pub at : ℕ → ℕ → ℕ → Notice
 at n s r = record { number = n; section = s; «record» = r }
 
 -- the place of a section in a design file
-abbrev pub sectionNumber : Section → ℕ
-sectionNumber Tables = 0
-sectionNumber Variables = 1
-sectionNumber Blocks = 2
-sectionNumber Commands = 3
-sectionNumber Expressions = 4
+abbrev pub section_number : Section → ℕ
+section_number Tables = 0
+section_number Variables = 1
+section_number Blocks = 2
+section_number Commands = 3
+section_number Expressions = 4
 
 abbrev pub notice : Refusal → Notice
 notice TooShort = at 1 0 0
 notice UnknownEdition = at 2 0 0
-notice (BrokenLayout s) = at 3 (sectionNumber s) 0
-notice (OverLimit s) = at 4 (sectionNumber s) 0
-notice (OutOfRange p) = at 5 (sectionNumber (p .section)) (p .«record»)
-notice (Misused p) = at 6 (sectionNumber (p .section)) (p .«record»)
-notice (WidthMismatch p) = at 7 (sectionNumber (p .section)) (p .«record»)
-notice (BadAssignment p) = at 8 (sectionNumber (p .section)) (p .«record»)
+notice (BrokenLayout s) = at 3 (section_number s) 0
+notice (OverLimit s) = at 4 (section_number s) 0
+notice (OutOfRange p) = at 5 (section_number p.section) p.«record»
+notice (Misused p) = at 6 (section_number p.section) p.«record»
+notice (WidthMismatch p) = at 7 (section_number p.section) p.«record»
+notice (BadAssignment p) = at 8 (section_number p.section) p.«record»
 notice (EarlyRead e) = at 9 4 e
 notice (BadSelector v) = at 10 1 v
-notice (NoLevel p) = at 11 (sectionNumber (p .section)) (p .«record»)
+notice (NoLevel p) = at 11 (section_number p.section) p.«record»
 notice (SelectorTooHigh v) = at 12 1 v
 notice (FlowTooHigh c flow target) = at 13 3 c
 notice (ConditionTooHigh c) = at 14 3 c
@@ -50,4 +47,4 @@ notice NotALattice = at 22 0 0
 
 -- a notice as it is printed
 abbrev pub line : Notice → List ℕ
-line n = codes "refused " ++ (decimal (n .number) ++ (codes " " ++ (decimal (n .section) ++ (codes " " ++ decimal (n .«record»)))))
+line n = codes "refused " ++ (decimal n.number ++ (codes " " ++ (decimal n.section ++ (codes " " ++ decimal n.«record»))))

@@ -1,7 +1,7 @@
 //! Every refusal that a caller can meet, with its number and its place.
-ghost use mathlib.Core.Path.{_≡_};
-ghost use Rattle·std.specs.declared.option.Option.the-variants.{Some};
-ghost use Rattle·refusal·specs.Notice.{notice, sectionNumber, line};
+ghost use Rattle.std.specs.Prelude.{◌≡◌, Some};
+ghost use Rattle.refusal.specs.Notice.{notice, section_number, line};
+
 use std::fmt;
 
 /// The five sections of a design file, in the file's order.
@@ -16,7 +16,7 @@ pub enum Section {
 
 impl Section {
     pub fn number(self) -> u32
-        ensures { λ r. ⌜ r ≡ sectionNumber self ⌝ }
+        ensures { result ≡ section_number self }
     {
         match self {
             Section::Tables => 0,
@@ -107,7 +107,7 @@ pub enum Refusal {
 
 impl Refusal {
     pub fn number(self) -> u32
-        ensures { λ r. ⌜ r ≡ notice self .number ⌝ }
+        ensures { result ≡ (notice self).number }
     {
         match self {
             Refusal::TooShort => 1,
@@ -137,7 +137,7 @@ impl Refusal {
 
     /// The section of what the refusal is about, 0 where it is about no record.
     pub fn section(self) -> u32
-        ensures { λ r. ⌜ r ≡ notice self .section ⌝ }
+        ensures { result ≡ (notice self).section }
     {
         match self {
             Refusal::TooShort
@@ -167,7 +167,7 @@ impl Refusal {
 
     /// The record of what the refusal is about, 0 where it is about no record.
     pub fn record(self) -> u32
-        ensures { λ r. ⌜ r ≡ notice self .«record» ⌝ }
+        ensures { result ≡ (notice self).«record» }
     {
         match self {
             Refusal::TooShort
@@ -194,8 +194,8 @@ impl Refusal {
     }
 }
 
-pub impl fmt::Display for Refusal as RefusalDisplay {
-    ghost shown = { λ x. Some (line (notice x)) };
+impl fmt::Display for Refusal {
+    ghost output = { λ x. Some (line (notice x)) };
 
     fn fmt<W: fmt::Write>(&self, f: &mut fmt::Formatter<W>) -> fmt::Result {
         let number = self.number();
@@ -206,7 +206,7 @@ pub impl fmt::Display for Refusal as RefusalDisplay {
 }
 
 // As it is printed: what a derive would write of two and twenty cases is long to prove.
-pub impl fmt::Debug for Refusal as RefusalDebug {
+impl fmt::Debug for Refusal {
     fn fmt<W: fmt::Write>(&self, f: &mut fmt::Formatter<W>) -> fmt::Result {
         write!(f, "{self}")
     }

@@ -1,30 +1,21 @@
 //! What blocks assign, when they read, and how labels are looked up.
-ghost use mathlib.Core.Path.{_≡_};
-ghost use mathlib.Core.Bool.{not, _&&_};
-ghost use mathlib.Core.List.{List};
-ghost use Prim.Native.Nat.{ℕ, _<_};
-ghost use Rattle·refusal.specs.declared.Section.the-variants.{Variables};
-ghost use Rattle·records.specs.declared.layout.Layout.{Layout};
-ghost use Rattle·records.specs.Layouts.{countIn};
-ghost use Rattle·survey.specs.Sums.{any};
-ghost use Rattle·survey.specs.Sets.{isWire, Surveyed};
-ghost use Rattle·rules·specs.Blocks.{unsettled, clockedAt, late, misassigns, hasty, fixedForm, comesAfter, wrongBy, wrongSelector, misled, misguided};
+ghost use Rattle.std.specs.Prelude.{◌≡◌, ℕ, ◌<◌, not, ◌&&◌, List};
+ghost use Rattle.refusal.specs.declared.Section.TheVariants.{Variables};
+ghost use Rattle.records.specs.declared.layout.Layout.{Layout};
+ghost use Rattle.records.specs.Layouts.{count_in};
+ghost use Rattle.survey.specs.Sums.{any};
+ghost use Rattle.survey.specs.Sets.{is_wire, Surveyed};
+ghost use Rattle.rules.specs.Blocks.{unsettled, clocked_at, late, misassigns, hasty, fixed_form, comes_after, wrong_by, wrong_selector, misled, misguided};
+
 use crate::widths::variable_width;
-use records::Form;
-use records::Kind;
-use records::Layout;
-use records::Variable;
-use records::block_at;
-use records::variable_at;
+use records::{Form, Kind, Layout, Variable, block_at, variable_at};
 use refusal::Section;
-use survey::Survey;
-use survey::is_settled;
-use survey::is_wire;
+use survey::{Survey, is_settled, is_wire};
 
 fn is_unsettled(file: &[u8], l: Layout, survey: &Survey, v: u32) -> bool
-    requires surveyed { ⌜ Surveyed (now file) l (now survey) ⌝ }
-    requires low { ⌜ v < countIn l Variables ⌝ }
-    ensures { λ r. ⌜ r ≡ unsettled (now (file .entry)) l v ⌝ }
+    requires surveyed { Surveyed file.now l survey.now }
+    requires low { v < count_in l Variables }
+    ensures { result ≡ unsettled file.now l v }
 {
     if survey.assigns_twice(v) {
         return true;
@@ -33,14 +24,14 @@ fn is_unsettled(file: &[u8], l: Layout, survey: &Survey, v: u32) -> bool
 }
 
 fn is_clocked(file: &[u8], l: Layout, b: u32) -> bool
-    ensures { λ r. ⌜ r ≡ clockedAt (now (file .entry)) l b ⌝ }
+    ensures { result ≡ clocked_at file.now l b }
 {
     !is_settled(block_at(file, l, b).kind)
 }
 
 // Whether a block before block `n` is clocked.
 fn is_clocked_before(file: &[u8], l: Layout, n: u32) -> bool
-    ensures { λ r. ⌜ r ≡ any (clockedAt (now (file .entry)) l) n ⌝ }
+    ensures { result ≡ any (clocked_at file.now l) n }
 {
     for b in 0..n {
         if is_clocked(file, l, b) {
@@ -51,7 +42,7 @@ fn is_clocked_before(file: &[u8], l: Layout, n: u32) -> bool
 }
 
 fn is_late(file: &[u8], l: Layout, n: u32) -> bool
-    ensures { λ r. ⌜ r ≡ late (now (file .entry)) l n ⌝ }
+    ensures { result ≡ late file.now l n }
 {
     is_settled(block_at(file, l, n).kind) && is_clocked_before(file, l, n)
 }
@@ -63,9 +54,9 @@ pub(crate) fn is_misassigned(
     section: Section,
     n: u32,
 ) -> bool
-    requires surveyed { ⌜ Surveyed (now file) l (now survey) ⌝ }
-    requires low { ⌜ n < countIn l section ⌝ }
-    ensures { λ r. ⌜ r ≡ misassigns (now (file .entry)) l section n ⌝ }
+    requires surveyed { Surveyed file.now l survey.now }
+    requires low { n < count_in l section }
+    ensures { result ≡ misassigns file.now l section n }
 {
     match section {
         Section::Tables => false,
@@ -77,7 +68,7 @@ pub(crate) fn is_misassigned(
 }
 
 pub(crate) fn is_hasty(survey: &Survey, section: Section, n: u32) -> bool
-    ensures { λ r. ⌜ ((f : List ℕ) (l : Layout) → Surveyed f l (now (survey .entry)) → n < countIn l section → r ≡ hasty f l section n) ⌝ }
+    ensures { (f : List ℕ) (l : Layout) → Surveyed f l survey.now → n < count_in l section → result ≡ hasty f l section n }
 {
     match section {
         Section::Expressions => survey.reads_early(n),
@@ -86,7 +77,7 @@ pub(crate) fn is_hasty(survey: &Survey, section: Section, n: u32) -> bool
 }
 
 fn is_fixed(form: Form) -> bool
-    ensures { λ r. ⌜ r ≡ fixedForm form ⌝ }
+    ensures { result ≡ fixed_form form }
 {
     match form {
         Form::LookedUp => false,
@@ -96,9 +87,9 @@ fn is_fixed(form: Form) -> bool
 
 // Whether the wire `s` may not be the selector of the wire `v`, which is another one.
 fn is_wrong_wire(file: &[u8], l: Layout, survey: &Survey, v: u32, s: u32) -> bool
-    requires surveyed { ⌜ Surveyed (now file) l (now survey) ⌝ }
-    requires low { ⌜ v < countIn l Variables ⌝ }
-    ensures { λ r. ⌜ r ≡ (isWire (now (file .entry)) l s && not (comesAfter (now (file .entry)) l v s)) ⌝ }
+    requires surveyed { Surveyed file.now l survey.now }
+    requires low { v < count_in l Variables }
+    ensures { result ≡ (is_wire file.now l s && not (comes_after file.now l v s)) }
 {
     if s >= l.count(Section::Variables) {
         return false;
@@ -108,9 +99,9 @@ fn is_wrong_wire(file: &[u8], l: Layout, survey: &Survey, v: u32, s: u32) -> boo
 
 // Whether `s` may not be the selector of `v`, by the kind of `v`.
 fn is_wrong_by(file: &[u8], l: Layout, survey: &Survey, kind: Kind, v: u32, s: u32) -> bool
-    requires surveyed { ⌜ Surveyed (now file) l (now survey) ⌝ }
-    requires low { ⌜ v < countIn l Variables ⌝ }
-    ensures { λ r. ⌜ r ≡ wrongBy (now (file .entry)) l kind v s ⌝ }
+    requires surveyed { Surveyed file.now l survey.now }
+    requires low { v < count_in l Variables }
+    ensures { result ≡ wrong_by file.now l kind v s }
 {
     match kind {
         Kind::Port => s == v || is_wire(file, l, s),
@@ -120,9 +111,9 @@ fn is_wrong_by(file: &[u8], l: Layout, survey: &Survey, kind: Kind, v: u32, s: u
 }
 
 fn is_wrong_selector(file: &[u8], l: Layout, survey: &Survey, kind: Kind, v: u32, s: u32) -> bool
-    requires surveyed { ⌜ Surveyed (now file) l (now survey) ⌝ }
-    requires low { ⌜ v < countIn l Variables ⌝ }
-    ensures { λ r. ⌜ r ≡ wrongSelector (now (file .entry)) l kind v s ⌝ }
+    requires surveyed { Surveyed file.now l survey.now }
+    requires low { v < count_in l Variables }
+    ensures { result ≡ wrong_selector file.now l kind v s }
 {
     if variable_width(file, l, s) > 4 {
         return true;
@@ -134,9 +125,9 @@ fn is_wrong_selector(file: &[u8], l: Layout, survey: &Survey, kind: Kind, v: u32
 }
 
 fn is_misled(file: &[u8], l: Layout, survey: &Survey, x: Variable, v: u32) -> bool
-    requires surveyed { ⌜ Surveyed (now file) l (now survey) ⌝ }
-    requires low { ⌜ v < countIn l Variables ⌝ }
-    ensures { λ r. ⌜ r ≡ misled (now (file .entry)) l x v ⌝ }
+    requires surveyed { Surveyed file.now l survey.now }
+    requires low { v < count_in l Variables }
+    ensures { result ≡ misled file.now l x v }
 {
     match x.form {
         Form::LookedUp => is_wrong_selector(file, l, survey, x.kind, v, x.level),
@@ -151,9 +142,9 @@ pub(crate) fn is_misguided(
     section: Section,
     n: u32,
 ) -> bool
-    requires surveyed { ⌜ Surveyed (now file) l (now survey) ⌝ }
-    requires low { ⌜ n < countIn l section ⌝ }
-    ensures { λ r. ⌜ r ≡ misguided (now (file .entry)) l section n ⌝ }
+    requires surveyed { Surveyed file.now l survey.now }
+    requires low { n < count_in l section }
+    ensures { result ≡ misguided file.now l section n }
 {
     match section {
         Section::Variables => is_misled(file, l, survey, variable_at(file, l, n), n),

@@ -1,21 +1,15 @@
 //! Which record breaks a rule first.
-ghost use mathlib.Core.Path.{_≡_};
-ghost use Rattle·rules·specs.First.{refusalOf, refusedIn, refusedBy};
-ghost use Rattle·rules·specs.Rules.{Knows};
-use crate::Facts;
-use crate::Rule;
-use crate::breaks;
-use crate::facts_for;
-use records::Layout;
-use records::SECTION_COUNT;
-use records::section_at;
-use refusal::Place;
-use refusal::Refusal;
-use refusal::Section;
+ghost use Rattle.std.specs.Prelude.{◌≡◌};
+ghost use Rattle.rules.specs.First.{refusal_of, refused_in, refused_by};
+ghost use Rattle.rules.specs.Rules.{Knows};
+
+use crate::{Facts, Rule, breaks, facts_for};
+use records::{Layout, SECTION_COUNT, section_at};
+use refusal::{Place, Refusal, Section};
 
 // The refusal of a record that breaks a rule.
 fn refusal_of(rule: Rule, section: Section, record: u32) -> Refusal
-    ensures { λ r. ⌜ r ≡ refusalOf rule section «record» ⌝ }
+    ensures { result ≡ refusal_of rule section «record» }
 {
     let place = Place { section, record };
     match rule {
@@ -30,8 +24,8 @@ fn refusal_of(rule: Rule, section: Section, record: u32) -> Refusal
 
 // The first record of a section that breaks a rule.
 fn first_in(file: &[u8], l: Layout, facts: &Facts, rule: Rule, section: Section) -> Option<Refusal>
-    requires { ⌜ Knows (now file) l rule (now facts) ⌝ }
-    ensures { λ r. ⌜ r ≡ refusedIn (now (file .entry)) l rule section ⌝ }
+    requires { Knows file.now l rule facts.now }
+    ensures { result ≡ refused_in file.now l rule section }
 {
     for n in 0..l.count(section) {
         if breaks(file, l, facts, rule, section, n) {
@@ -43,7 +37,7 @@ fn first_in(file: &[u8], l: Layout, facts: &Facts, rule: Rule, section: Section)
 
 /// The refusal of the first record that breaks a rule, if there is one.
 pub fn first_by(file: &[u8], l: Layout, rule: Rule) -> Option<Refusal>
-    ensures { λ r. ⌜ r ≡ refusedBy (now (file .entry)) l rule ⌝ }
+    ensures { result ≡ refused_by file.now l rule }
 {
     let facts = facts_for(file, l, rule);
     for i in 0..SECTION_COUNT {

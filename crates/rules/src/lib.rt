@@ -1,16 +1,13 @@
 //! The rules of form: whether a record breaks one.
-ghost use mathlib.Core.Path.{_≡_};
-ghost use Prim.Native.Nat.{_<_};
-ghost use Rattle·records.specs.Layouts.{countIn};
-ghost use Rattle·rules·specs.Parts.{misused};
-ghost use Rattle·rules·specs.Blocks.{misassigns, hasty, misguided};
-ghost use Rattle·rules·specs.Rules.{offends, Counts-in, Surveyed-in, Knows};
+ghost use Rattle.std.specs.Prelude.{◌≡◌, ◌<◌};
+ghost use Rattle.records.specs.Layouts.{count_in};
+ghost use Rattle.rules.specs.Parts.{misused};
+ghost use Rattle.rules.specs.Blocks.{misassigns, hasty, misguided};
+ghost use Rattle.rules.specs.Rules.{offends, CountsIn, SurveyedIn, Knows};
+
 use records::Layout;
 use refusal::Section;
-use survey::Survey;
-use survey::Uses;
-use survey::survey_of;
-use survey::uses_of;
+use survey::{Survey, Uses, survey_of, uses_of};
 
 mod blocks;
 mod firsts;
@@ -48,7 +45,7 @@ pub(crate) enum Facts {
 /// What deciding a rule takes. The blocks are walked for the last three rules, which are asked where the second one holds:
 /// then a walk meets each record once.
 pub(crate) fn facts_for(file: &[u8], l: Layout, rule: Rule) -> Facts
-    ensures { λ r. ⌜ Knows (now (file .entry)) l rule r ⌝ }
+    ensures { Knows file.now l rule result }
 {
     match rule {
         Rule::Range => Facts::Plain,
@@ -61,9 +58,9 @@ pub(crate) fn facts_for(file: &[u8], l: Layout, rule: Rule) -> Facts
 }
 
 fn breaks_use(file: &[u8], l: Layout, facts: &Facts, section: Section, n: u32) -> bool
-    requires knows { ⌜ Counts-in (now file) l (now facts) ⌝ }
-    requires low { ⌜ n < countIn l section ⌝ }
-    ensures { λ r. ⌜ r ≡ misused (now (file .entry)) l section n ⌝ }
+    requires knows { CountsIn file.now l facts.now }
+    requires low { n < count_in l section }
+    ensures { result ≡ misused file.now l section n }
 {
     match facts {
         Facts::Counted(uses) => parts::is_misused(file, l, uses, section, n),
@@ -72,9 +69,9 @@ fn breaks_use(file: &[u8], l: Layout, facts: &Facts, section: Section, n: u32) -
 }
 
 fn breaks_assignment(file: &[u8], l: Layout, facts: &Facts, section: Section, n: u32) -> bool
-    requires knows { ⌜ Surveyed-in (now file) l (now facts) ⌝ }
-    requires low { ⌜ n < countIn l section ⌝ }
-    ensures { λ r. ⌜ r ≡ misassigns (now (file .entry)) l section n ⌝ }
+    requires knows { SurveyedIn file.now l facts.now }
+    requires low { n < count_in l section }
+    ensures { result ≡ misassigns file.now l section n }
 {
     match facts {
         Facts::Walked(survey) => blocks::is_misassigned(file, l, survey, section, n),
@@ -83,9 +80,9 @@ fn breaks_assignment(file: &[u8], l: Layout, facts: &Facts, section: Section, n:
 }
 
 fn breaks_reading(file: &[u8], l: Layout, facts: &Facts, section: Section, n: u32) -> bool
-    requires knows { ⌜ Surveyed-in (now file) l (now facts) ⌝ }
-    requires low { ⌜ n < countIn l section ⌝ }
-    ensures { λ r. ⌜ r ≡ hasty (now (file .entry)) l section n ⌝ }
+    requires knows { SurveyedIn file.now l facts.now }
+    requires low { n < count_in l section }
+    ensures { result ≡ hasty file.now l section n }
 {
     match facts {
         Facts::Walked(survey) => blocks::is_hasty(survey, section, n),
@@ -94,9 +91,9 @@ fn breaks_reading(file: &[u8], l: Layout, facts: &Facts, section: Section, n: u3
 }
 
 fn breaks_selector(file: &[u8], l: Layout, facts: &Facts, section: Section, n: u32) -> bool
-    requires knows { ⌜ Surveyed-in (now file) l (now facts) ⌝ }
-    requires low { ⌜ n < countIn l section ⌝ }
-    ensures { λ r. ⌜ r ≡ misguided (now (file .entry)) l section n ⌝ }
+    requires knows { SurveyedIn file.now l facts.now }
+    requires low { n < count_in l section }
+    ensures { result ≡ misguided file.now l section n }
 {
     match facts {
         Facts::Walked(survey) => blocks::is_misguided(file, l, survey, section, n),
@@ -113,9 +110,9 @@ pub(crate) fn breaks(
     section: Section,
     n: u32,
 ) -> bool
-    requires knows { ⌜ Knows (now file) l rule (now facts) ⌝ }
-    requires low { ⌜ n < countIn l section ⌝ }
-    ensures { λ r. ⌜ r ≡ offends (now (file .entry)) l rule section n ⌝ }
+    requires knows { Knows file.now l rule facts.now }
+    requires low { n < count_in l section }
+    ensures { result ≡ offends file.now l rule section n }
 {
     match rule {
         Rule::Range => ranges::is_out_of_range(file, l, section, n),

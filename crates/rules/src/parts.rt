@@ -1,21 +1,15 @@
 //! Commands and expressions are used once, by higher records.
-ghost use mathlib.Core.Path.{_≡_};
-ghost use Prim.Native.Nat.{_<_};
-ghost use Rattle·records.specs.Layouts.{countIn};
-ghost use Rattle·survey.specs.Uses.{Counts};
-ghost use Rattle·rules·specs.Parts.{commandHigh, exprHigh, misused};
-use records::Command;
-use records::Expression;
-use records::Layout;
-use records::Operation;
-use records::Step;
-use records::command_at;
-use records::expression_at;
+ghost use Rattle.std.specs.Prelude.{◌≡◌, ◌<◌};
+ghost use Rattle.records.specs.Layouts.{count_in};
+ghost use Rattle.survey.specs.Uses.{Counts};
+ghost use Rattle.rules.specs.Parts.{command_high, expr_high, misused};
+
+use records::{Command, Expression, Layout, Operation, Step, command_at, expression_at};
 use refusal::Section;
 use survey::Uses;
 
 fn is_command_high(x: Command, n: u32) -> bool
-    ensures { λ r. ⌜ r ≡ commandHigh x n ⌝ }
+    ensures { result ≡ command_high x n }
 {
     match x.step {
         Step::Both => x.a >= n || x.b >= n,
@@ -25,7 +19,7 @@ fn is_command_high(x: Command, n: u32) -> bool
 }
 
 fn is_expression_high(x: Expression, n: u32) -> bool
-    ensures { λ r. ⌜ r ≡ exprHigh x n ⌝ }
+    ensures { result ≡ expr_high x n }
 {
     match x.operation {
         Operation::Not => x.a >= n,
@@ -40,9 +34,9 @@ fn is_expression_high(x: Expression, n: u32) -> bool
 }
 
 pub(crate) fn is_misused(file: &[u8], l: Layout, uses: &Uses, section: Section, n: u32) -> bool
-    requires counted { ⌜ Counts (now file) l (now uses) ⌝ }
-    requires low { ⌜ n < countIn l section ⌝ }
-    ensures { λ r. ⌜ r ≡ misused (now (file .entry)) l section n ⌝ }
+    requires counted { Counts file.now l uses.now }
+    requires low { n < count_in l section }
+    ensures { result ≡ misused file.now l section n }
 {
     match section {
         Section::Commands => !uses.once_command(n) || is_command_high(command_at(file, l, n), n),

@@ -1,32 +1,21 @@
 //! Fields, constants and shifts are in range, and name records that exist.
-ghost use mathlib.Core.Path.{_≡_};
-ghost use mathlib.Core.Bool.{_||_};
-ghost use Prim.Native.Nat.{_≤_};
-ghost use Rattle·rules·specs.Ranges.{badWidth, labelOut, resetOut, variableOut, blockOut, commandOut, operandOut, expressionOut, outOfRange};
-use records::Block;
-use records::BlockKind;
-use records::Command;
-use records::Expression;
-use records::Form;
-use records::Kind;
-use records::Layout;
-use records::Operation;
-use records::Step;
-use records::Variable;
-use records::block_at;
-use records::command_at;
-use records::expression_at;
-use records::variable_at;
+ghost use Rattle.std.specs.Prelude.{◌≡◌, ◌≤◌, ◌||◌};
+ghost use Rattle.rules.specs.Ranges.{bad_width, label_out, reset_out, variable_out, block_out, command_out, operand_out, expression_out, out_of_range};
+
+use records::{
+    Block, BlockKind, Command, Expression, Form, Kind, Layout, Operation, Step, Variable, block_at,
+    command_at, expression_at, variable_at,
+};
 use refusal::Section;
 
 fn is_bad_width(width: u8) -> bool
-    ensures { λ r. ⌜ r ≡ badWidth width ⌝ }
+    ensures { result ≡ bad_width width }
 {
     width == 0 || width > 32
 }
 
 fn is_label_out(v: Variable, tables: u32, variables: u32) -> bool
-    ensures { λ r. ⌜ r ≡ labelOut (v .form) (v .table) (v .level) tables variables ⌝ }
+    ensures { result ≡ label_out v.form v.table v.level tables variables }
 {
     match v.form {
         Form::Fixed => v.table != 0,
@@ -36,8 +25,8 @@ fn is_label_out(v: Variable, tables: u32, variables: u32) -> bool
 }
 
 fn is_reset_out(v: Variable) -> bool
-    requires { ⌜ v .width ≤ 32 ⌝ }
-    ensures { λ r. ⌜ r ≡ resetOut (v .kind) (v .reset) (v .width) ⌝ }
+    requires { v.width ≤ 32 }
+    ensures { result ≡ reset_out v.kind v.reset v.width }
 {
     match v.kind {
         Kind::Port => v.reset != 0,
@@ -48,7 +37,7 @@ fn is_reset_out(v: Variable) -> bool
 }
 
 fn is_variable_out(v: Variable, tables: u32, variables: u32) -> bool
-    ensures { λ r. ⌜ r ≡ variableOut v tables variables ⌝ }
+    ensures { result ≡ variable_out v tables variables }
 {
     if is_bad_width(v.width) {
         return true;
@@ -60,7 +49,7 @@ fn is_variable_out(v: Variable, tables: u32, variables: u32) -> bool
 }
 
 fn is_block_out(b: Block, commands: u32) -> bool
-    ensures { λ r. ⌜ r ≡ blockOut b commands ⌝ }
+    ensures { result ≡ block_out b commands }
 {
     match b.kind {
         BlockKind::Unknown => true,
@@ -69,7 +58,7 @@ fn is_block_out(b: Block, commands: u32) -> bool
 }
 
 fn is_command_out(x: Command, variables: u32, commands: u32, expressions: u32) -> bool
-    ensures { λ r. ⌜ r ≡ commandOut x variables commands expressions ⌝ }
+    ensures { result ≡ command_out x variables commands expressions }
 {
     match x.step {
         Step::Idle => x.a != 0 || x.b != 0 || x.c != 0,
@@ -81,8 +70,8 @@ fn is_command_out(x: Command, variables: u32, commands: u32, expressions: u32) -
 }
 
 fn is_operand_out(x: Expression, variables: u32, expressions: u32) -> bool
-    requires { ⌜ x .width ≤ 32 ⌝ }
-    ensures { λ r. ⌜ r ≡ operandOut (x .operation) (x .width) (x .a) (x .b) (x .c) variables expressions ⌝ }
+    requires { x.width ≤ 32 }
+    ensures { result ≡ operand_out x.operation x.width x.a x.b x.c variables expressions }
 {
     match x.operation {
         Operation::Constant => x.a as u64 >= 1u64 << x.width || x.b != 0 || x.c != 0,
@@ -99,7 +88,7 @@ fn is_operand_out(x: Expression, variables: u32, expressions: u32) -> bool
 }
 
 fn is_expression_out(x: Expression, variables: u32, expressions: u32) -> bool
-    ensures { λ r. ⌜ r ≡ expressionOut x variables expressions ⌝ }
+    ensures { result ≡ expression_out x variables expressions }
 {
     if x.third != 0 || x.fourth != 0 {
         return true;
@@ -111,7 +100,7 @@ fn is_expression_out(x: Expression, variables: u32, expressions: u32) -> bool
 }
 
 pub(crate) fn is_out_of_range(file: &[u8], l: Layout, section: Section, n: u32) -> bool
-    ensures { λ r. ⌜ r ≡ outOfRange (now (file .entry)) l section n ⌝ }
+    ensures { result ≡ out_of_range file.now l section n }
 {
     let variables = l.count(Section::Variables);
     let commands = l.count(Section::Commands);

@@ -1,37 +1,31 @@
 //! Widths fit.
-ghost use mathlib.Core.Path.{_≡_};
-ghost use Prim.Native.Nat.{_+_};
-ghost use Rattle·language.specs.Form.{of-op};
-ghost use Rattle·records.specs.Trees.{opOf};
-ghost use Rattle·rules·specs.Widths.{wide, varWide, commandMisfit, exprMisfit, misfits};
-use records::Command;
-use records::Expression;
-use records::Layout;
-use records::Operation;
-use records::Pairing;
-use records::Step;
-use records::command_at;
-use records::expression_at;
-use records::variable_at;
+ghost use Rattle.std.specs.Prelude.{◌≡◌, ◌+◌};
+ghost use Rattle.language.specs.Form.{of_op};
+ghost use Rattle.records.specs.Trees.{op_of};
+ghost use Rattle.rules.specs.Widths.{wide, var_wide, command_misfit, expr_misfit, misfits};
+
+use records::{
+    Command, Expression, Layout, Operation, Pairing, Step, command_at, expression_at, variable_at,
+};
 use refusal::Section;
 
 // The width of expression `e`.
 fn width_at(file: &[u8], l: Layout, e: u32) -> u8
-    ensures { λ r. ⌜ r ≡ wide (now (file .entry)) l e ⌝ }
+    ensures { result ≡ wide file.now l e }
 {
     expression_at(file, l, e).width
 }
 
 /// The width of variable `v`.
 pub(crate) fn variable_width(file: &[u8], l: Layout, v: u32) -> u8
-    ensures { λ r. ⌜ r ≡ varWide (now (file .entry)) l v ⌝ }
+    ensures { result ≡ var_wide file.now l v }
 {
     variable_at(file, l, v).width
 }
 
 // The width of two parts joined.
 fn paired_width(by: Pairing, width: u8) -> u8
-    ensures { λ r. ⌜ r ≡ of-op (opOf by) width ⌝ }
+    ensures { result ≡ of_op (op_of by) width }
 {
     match by {
         Pairing::Equals => 1,
@@ -41,7 +35,7 @@ fn paired_width(by: Pairing, width: u8) -> u8
 }
 
 fn is_command_misfit(file: &[u8], l: Layout, x: Command) -> bool
-    ensures { λ r. ⌜ r ≡ commandMisfit (now (file .entry)) l x ⌝ }
+    ensures { result ≡ command_misfit file.now l x }
 {
     match x.step {
         Step::Choose => width_at(file, l, x.a) != 1,
@@ -51,7 +45,7 @@ fn is_command_misfit(file: &[u8], l: Layout, x: Command) -> bool
 }
 
 fn is_expression_misfit(file: &[u8], l: Layout, x: Expression) -> bool
-    ensures { λ r. ⌜ r ≡ exprMisfit (now (file .entry)) l x ⌝ }
+    ensures { result ≡ expr_misfit file.now l x }
 {
     let a = width_at(file, l, x.a);
     let b = width_at(file, l, x.b);
@@ -70,7 +64,7 @@ fn is_expression_misfit(file: &[u8], l: Layout, x: Expression) -> bool
 }
 
 pub(crate) fn is_misfit(file: &[u8], l: Layout, section: Section, n: u32) -> bool
-    ensures { λ r. ⌜ r ≡ misfits (now (file .entry)) l section n ⌝ }
+    ensures { result ≡ misfits file.now l section n }
 {
     match section {
         Section::Commands => is_command_misfit(file, l, command_at(file, l, n)),

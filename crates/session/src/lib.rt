@@ -1,12 +1,11 @@
 //! Sessions: an accepted design, run by cycles and read by watchers.
-ghost use mathlib.Core.Path.{_≡_};
-ghost use Prim.Native.Nat.{ℕ};
-ghost use Rattle·language.specs.Machine.{opening, step, driven, answer, drive, clock, reset};
-ghost use Rattle·records.specs.Trees.{designOf};
-ghost use Rattle·machine.specs.Holding.{valuation};
+ghost use Rattle.std.specs.Prelude.{◌≡◌, ℕ};
+ghost use Rattle.language.specs.Machine.{opening, step, driven, answer, drive, clock, reset};
+ghost use Rattle.records.specs.Trees.{design_of};
+ghost use Rattle.machine.specs.Holding.{valuation};
+
 use judgement::Accepted;
-use lattice::Lattice;
-use lattice::Level;
+use lattice::{Lattice, Level};
 use machine::Held;
 use refusal::Refusal;
 
@@ -20,8 +19,8 @@ pub struct Session<'a> {
 impl<'a> Session<'a> {
     /// Opens a session: ports hold 0, registers their reset values.
     pub fn open(design: Accepted<'a>) -> Session<'a>
-        ensures design { λ r. ⌜ r .design ≡ design .entry ⌝ }
-        ensures held { λ r. ⌜ ((v : ℕ) → valuation (r .held) v ≡ opening (designOf (now (design .entry .file)) (design .entry .layout)) v) ⌝ }
+        ensures design { result.design ≡ design.entry }
+        ensures held { (v : ℕ) → valuation result.held v ≡ opening (design_of design.entry.file.now design.entry.layout) v }
     {
         let held = machine::opening(design.file(), design.layout());
         Session { design, held }
@@ -29,9 +28,9 @@ impl<'a> Session<'a> {
 
     /// Sets a port and clears what that clears, or refuses and changes nothing.
     pub fn drive(&mut self, variable: u32, value: u32) -> Result<(), Refusal>
-        ensures answer { λ r. ⌜ r ≡ driven (designOf (now (now (self .entry) .design .file)) (now (self .entry) .design .layout)) variable value ⌝ }
-        ensures held { λ _. ⌜ ((v : ℕ) → valuation (now (self .exit) .held) v ≡ step (designOf (now (now (self .entry) .design .file)) (now (self .entry) .design .layout)) (valuation (now (self .entry) .held)) (drive variable value) v) ⌝ }
-        ensures design { λ _. ⌜ now (self .exit) .design ≡ now (self .entry) .design ⌝ }
+        ensures answer { result ≡ driven (design_of self.old.design.file.now self.old.design.layout) variable value }
+        ensures held { (v : ℕ) → valuation self.new.held v ≡ step (design_of self.old.design.file.now self.old.design.layout) (valuation self.old.held) (drive variable value) v }
+        ensures design { self.new.design ≡ self.old.design }
     {
         let file = self.design.file();
         let layout = self.design.layout();
@@ -40,8 +39,8 @@ impl<'a> Session<'a> {
 
     /// One cycle: the wires settle, all assigned registers change together, and what that clears is cleared.
     pub fn clock(&mut self)
-        ensures held { λ _. ⌜ ((v : ℕ) → valuation (now (self .exit) .held) v ≡ step (designOf (now (now (self .entry) .design .file)) (now (self .entry) .design .layout)) (valuation (now (self .entry) .held)) clock v) ⌝ }
-        ensures design { λ _. ⌜ now (self .exit) .design ≡ now (self .entry) .design ⌝ }
+        ensures held { (v : ℕ) → valuation self.new.held v ≡ step (design_of self.old.design.file.now self.old.design.layout) (valuation self.old.held) clock v }
+        ensures design { self.new.design ≡ self.old.design }
     {
         let file = self.design.file();
         let layout = self.design.layout();
@@ -50,8 +49,8 @@ impl<'a> Session<'a> {
 
     /// Gives every port and register its value at the opening.
     pub fn reset(&mut self)
-        ensures held { λ _. ⌜ ((v : ℕ) → valuation (now (self .exit) .held) v ≡ step (designOf (now (now (self .entry) .design .file)) (now (self .entry) .design .layout)) (valuation (now (self .entry) .held)) reset v) ⌝ }
-        ensures design { λ _. ⌜ now (self .exit) .design ≡ now (self .entry) .design ⌝ }
+        ensures held { (v : ℕ) → valuation self.new.held v ≡ step (design_of self.old.design.file.now self.old.design.layout) (valuation self.old.held) reset v }
+        ensures design { self.new.design ≡ self.old.design }
     {
         let file = self.design.file();
         let layout = self.design.layout();
@@ -65,7 +64,7 @@ impl<'a> Session<'a> {
         watcher: Level,
         variable: u32,
     ) -> Result<(u32, Level), Refusal>
-        ensures { λ r. ⌜ r ≡ answer (meaning (now (lattice .entry))) (designOf (now (now (self .entry) .design .file)) (now (self .entry) .design .layout)) (valuation (now (self .entry) .held)) watcher variable ⌝ }
+        ensures { result ≡ answer (meaning lattice.now) (design_of self.now.design.file.now self.now.design.layout) (valuation self.now.held) watcher variable }
     {
         machine::answer(
             self.design.file(),
@@ -79,7 +78,7 @@ impl<'a> Session<'a> {
 
     /// Ends the session and gives the accepted design back.
     pub fn close(self) -> Accepted<'a>
-        ensures { λ r. ⌜ r ≡ self .entry .design ⌝ }
+        ensures { result ≡ self.entry.design }
     {
         self.design
     }

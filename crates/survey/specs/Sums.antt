@@ -1,6 +1,5 @@
 -- Counting up: whether some number passes a test, and sums.
-use mathlib.Core.Bool.{Bool, false, cond, _||_}
-use Prim.Native.Nat.{ℕ, zero, suc, _+_}
+use Rattle.std.specs.Prelude.{ℕ, zero, suc, ◌+◌, Bool, false, cond, ◌||◌}
 
 -- does some number below n pass the test?
 unfoldable pub any : (ℕ → Bool) → ℕ → Bool

@@ -5,10 +5,5 @@ mod reach;
 mod sets;
 mod uses;
 
-pub use marks::Survey;
-pub use marks::is_register;
-pub use marks::is_settled;
-pub use marks::is_wire;
-pub use marks::survey_of;
-pub use uses::Uses;
-pub use uses::uses_of;
+pub use marks::{Survey, is_register, is_settled, is_wire, survey_of};
+pub use uses::{Uses, uses_of};

@@ -1,34 +1,17 @@
 //! Marks on the records that read too early, and on those that write where they may not.
-ghost use mathlib.Core.Path.{_≡_};
-ghost use mathlib.Core.Bool.{Bool, true, false, _&&_};
-ghost use mathlib.Core.List.{List};
-ghost use Prim.Native.Nat.{ℕ, _<_, _≤_};
-ghost use lib.ListN.{getD};
-ghost use lib.Dec.{eqb};
-ghost use Rattle·refusal.specs.declared.Section.the-variants.{Variables, Blocks, Commands, Expressions};
-ghost use Rattle·language.specs.Form.{always};
-ghost use Rattle·records.specs.declared.layout.Layout.{Layout};
-ghost use Rattle·records.specs.Layouts.{countIn};
-ghost use Rattle·records.specs.Trees.{exprAt, cmdAt, isSettled};
-ghost use Rattle·survey·specs.Sums.{any};
-ghost use Rattle·survey·specs.Walks.{reads, readsIn, writes, twice, blocksTo};
-ghost use Rattle·survey·specs.Sets.{isWire, isRegister, unready, wrongTarget, readsEarly, writesWrong, followsIn, Lists, Assigns, Marked, Marks, Surveyed};
-use crate::reach::Assigned;
-use crate::reach::assigned_by;
-use crate::sets::MOST_VARIABLES;
-use crate::sets::VariableSet;
-use crate::sets::both;
-use crate::sets::either;
-use crate::sets::union;
-use records::Action;
-use records::BlockKind;
-use records::Kind;
-use records::Layout;
-use records::Node;
-use records::action_at;
-use records::block_at;
-use records::node_at;
-use records::variable_at;
+ghost use Rattle.std.specs.Prelude.{◌≡◌, ℕ, ◌<◌, ◌≤◌, Bool, true, false, ◌&&◌, List, ◌==◌, slice_index_or};
+ghost use Rattle.refusal.specs.declared.Section.TheVariants.{Variables, Blocks, Commands, Expressions};
+ghost use Rattle.language.specs.Form.{always};
+ghost use Rattle.records.specs.declared.layout.Layout.{Layout};
+ghost use Rattle.records.specs.Layouts.{count_in};
+ghost use Rattle.records.specs.Trees.{expr_at, cmd_at, is_settled};
+ghost use Rattle.survey.specs.Sums.{any};
+ghost use Rattle.survey.specs.Walks.{reads, reads_in, writes, twice, blocks_to};
+ghost use Rattle.survey.specs.Sets.{is_wire, is_register, unready, wrong_target, reads_early, writes_wrong, follows_in, Lists, Assigns, Marked, Marks, Surveyed};
+
+use crate::reach::{Assigned, assigned_by};
+use crate::sets::{MOST_VARIABLES, VariableSet, both, either, union};
+use records::{Action, BlockKind, Kind, Layout, Node, action_at, block_at, node_at, variable_at};
 use refusal::Section;
 
 /// What is found of the blocks.
@@ -41,8 +24,8 @@ pub struct Survey {
 
 /// Whether variable `v` is a wire.
 pub fn is_wire(file: &[u8], l: Layout, v: u32) -> bool
-    ensures is { λ r. ⌜ r ≡ isWire (now (file .entry)) l v ⌝ }
-    ensures low { λ r. ⌜ (r ≡ true → v < 128) ⌝ }
+    ensures is { result ≡ is_wire file.now l v }
+    ensures low { result ≡ true → v < 128 }
 {
     if v >= l.count(Section::Variables) {
         return false;
@@ -56,7 +39,7 @@ pub fn is_wire(file: &[u8], l: Layout, v: u32) -> bool
 
 /// Whether variable `v` is a register.
 pub fn is_register(file: &[u8], l: Layout, v: u32) -> bool
-    ensures { λ r. ⌜ r ≡ isRegister (now (file .entry)) l v ⌝ }
+    ensures { result ≡ is_register file.now l v }
 {
     if v >= l.count(Section::Variables) {
         return false;
@@ -69,7 +52,7 @@ pub fn is_register(file: &[u8], l: Layout, v: u32) -> bool
 
 /// Whether a block is settled.
 pub fn is_settled(kind: BlockKind) -> bool
-    ensures { λ r. ⌜ r ≡ isSettled kind ⌝ }
+    ensures { result ≡ is_settled kind }
 {
     match kind {
         BlockKind::Settled => true,
@@ -79,7 +62,7 @@ pub fn is_settled(kind: BlockKind) -> bool
 
 // Whether `v` is a wire that is not among those known.
 fn is_unready(file: &[u8], l: Layout, known: &VariableSet, v: u32) -> bool
-    ensures { λ r. ⌜ ((p : ℕ → Bool) → Lists (now (known .entry)) p → r ≡ unready (now (file .entry)) l p v) ⌝ }
+    ensures { (p : ℕ → Bool) → Lists known.now p → result ≡ unready file.now l p v }
 {
     if is_wire(file, l, v) {
         return !known[v as usize];
@@ -89,7 +72,7 @@ fn is_unready(file: &[u8], l: Layout, known: &VariableSet, v: u32) -> bool
 
 // Whether a settled block, or another, may not assign `v`.
 fn is_wrong_target(file: &[u8], l: Layout, settled: bool, v: u32) -> bool
-    ensures { λ r. ⌜ r ≡ wrongTarget (now (file .entry)) l settled v ⌝ }
+    ensures { result ≡ wrong_target file.now l settled v }
 {
     if settled {
         !is_wire(file, l, v)
@@ -100,7 +83,7 @@ fn is_wrong_target(file: &[u8], l: Layout, settled: bool, v: u32) -> bool
 
 // Marks record `k`, if told so.
 fn mark(marks: &mut [bool], k: u32, yes: bool)
-    ensures { λ _. ⌜ Marks (now (marks .entry)) (now (marks .exit)) (λ j. eqb k j && yes) ⌝ }
+    ensures { Marks marks.old marks.new (λ j. (k == j) && yes) }
 {
     let i = k as usize;
     if yes {
@@ -112,7 +95,7 @@ fn mark(marks: &mut [bool], k: u32, yes: bool)
 
 // Marks the readings of unready wires in expression `e`.
 fn mark_reads(marks: &mut [bool], file: &[u8], l: Layout, e: u32, known: &VariableSet)
-    ensures { λ _. ⌜ ((p : ℕ → Bool) → Lists (now (known .entry)) p → Marks (now (marks .entry)) (now (marks .exit)) (reads (unready (now (file .entry)) l p) (exprAt (now (file .entry)) l e))) ⌝ }
+    ensures { (p : ℕ → Bool) → Lists known.now p → Marks marks.old marks.new (reads (unready file.now l p) (expr_at file.now l e)) }
 {
     match node_at(file, l, e) {
         Node::Nothing => {}
@@ -152,7 +135,7 @@ fn mark_reads(marks: &mut [bool], file: &[u8], l: Layout, e: u32, known: &Variab
 
 // Marks the readings of unready wires in command `n`.
 fn mark_early(marks: &mut [bool], file: &[u8], l: Layout, n: u32, known: &VariableSet)
-    ensures { λ _. ⌜ ((p : ℕ → Bool) → Lists (now (known .entry)) p → Marks (now (marks .entry)) (now (marks .exit)) (readsIn (unready (now (file .entry)) l p) (cmdAt (now (file .entry)) l n))) ⌝ }
+    ensures { (p : ℕ → Bool) → Lists known.now p → Marks marks.old marks.new (reads_in (unready file.now l p) (cmd_at file.now l n)) }
 {
     match action_at(file, l, n) {
         Action::Idle => {}
@@ -171,7 +154,7 @@ fn mark_early(marks: &mut [bool], file: &[u8], l: Layout, n: u32, known: &Variab
 
 // Marks the assignments in command `n` of what a settled block, or another, may not assign.
 fn mark_wrong(marks: &mut [bool], file: &[u8], l: Layout, n: u32, settled: bool)
-    ensures { λ _. ⌜ Marks (now (marks .entry)) (now (marks .exit)) (writes (wrongTarget (now (file .entry)) l settled) (cmdAt (now (file .entry)) l n)) ⌝ }
+    ensures { Marks marks.old marks.new (writes (wrong_target file.now l settled) (cmd_at file.now l n)) }
 {
     match action_at(file, l, n) {
         Action::Idle => {}
@@ -192,8 +175,8 @@ fn mark_wrong(marks: &mut [bool], file: &[u8], l: Layout, n: u32, settled: bool)
 
 // The expressions that read a wire too early.
 fn early_in(file: &[u8], l: Layout, assigned: &Assigned) -> [bool; 1024]
-    requires { ⌜ Assigns (now file) l (countIn l Blocks) (now assigned .all) (now assigned .each) ⌝ }
-    ensures { λ r. ⌜ Marked r (λ e. any (readsEarly (now (file .entry)) l e) (countIn l Blocks)) ⌝ }
+    requires { Assigns file.now l (count_in l Blocks) assigned.now.all assigned.now.each }
+    ensures { Marked result (λ e. any (reads_early file.now l e) (count_in l Blocks)) }
 {
     let mut marks = [false; 1024];
     let mut known = [false; MOST_VARIABLES];
@@ -206,7 +189,7 @@ fn early_in(file: &[u8], l: Layout, assigned: &Assigned) -> [bool; 1024]
 
 // The commands that assign what their block may not assign.
 fn wrong_in(file: &[u8], l: Layout) -> [bool; 512]
-    ensures { λ r. ⌜ Marked r (λ n. any (writesWrong (now (file .entry)) l n) (countIn l Blocks)) ⌝ }
+    ensures { Marked result (λ n. any (writes_wrong file.now l n) (count_in l Blocks)) }
 {
     let mut marks = [false; 512];
     for b in 0..l.count(Section::Blocks) {
@@ -218,7 +201,7 @@ fn wrong_in(file: &[u8], l: Layout) -> [bool; 512]
 
 /// Walks all blocks.
 pub fn survey_of(file: &[u8], l: Layout) -> Survey
-    ensures { λ r. ⌜ Surveyed (now (file .entry)) l r ⌝ }
+    ensures { Surveyed file.now l result }
 {
     let assigned = assigned_by(file, l);
     let early = early_in(file, l, &assigned);
@@ -231,7 +214,7 @@ pub fn survey_of(file: &[u8], l: Layout) -> Survey
 }
 
 fn has(marks: &[bool], k: u32) -> bool
-    ensures { λ r. ⌜ r ≡ getD (now (marks .entry)) k false ⌝ }
+    ensures { result ≡ slice_index_or marks.now k false }
 {
     let i = k as usize;
     if i < marks.len() { marks[i] } else { false }
@@ -240,35 +223,35 @@ fn has(marks: &[bool], k: u32) -> bool
 impl Survey {
     /// Whether some block reads a wire too early by expression `e`.
     pub fn reads_early(&self, e: u32) -> bool
-        ensures { λ r. ⌜ ((f : List ℕ) (l : Layout) → Surveyed f l (now (self .entry)) → e < countIn l Expressions → r ≡ any (readsEarly f l e) (countIn l Blocks)) ⌝ }
+        ensures { (f : List ℕ) (l : Layout) → Surveyed f l self.now → e < count_in l Expressions → result ≡ any (reads_early f l e) (count_in l Blocks) }
     {
         has(&self.early, e)
     }
 
     /// Whether some block assigns what it may not by command `n`.
     pub fn writes_wrong(&self, n: u32) -> bool
-        ensures { λ r. ⌜ ((f : List ℕ) (l : Layout) → Surveyed f l (now (self .entry)) → n < countIn l Commands → r ≡ any (writesWrong f l n) (countIn l Blocks)) ⌝ }
+        ensures { (f : List ℕ) (l : Layout) → Surveyed f l self.now → n < count_in l Commands → result ≡ any (writes_wrong f l n) (count_in l Blocks) }
     {
         has(&self.wrong, n)
     }
 
     /// Whether the blocks have two assignments of `v` that do not stand in opposite branches.
     pub fn assigns_twice(&self, v: u32) -> bool
-        ensures { λ r. ⌜ ((f : List ℕ) (l : Layout) → Surveyed f l (now (self .entry)) → v < countIn l Variables → r ≡ twice (blocksTo f l (countIn l Blocks)) v) ⌝ }
+        ensures { (f : List ℕ) (l : Layout) → Surveyed f l self.now → v < count_in l Variables → result ≡ twice (blocks_to f l (count_in l Blocks)) v }
     {
         has(&self.assigned.all.twice, v)
     }
 
     /// Whether the blocks assign `v` on every path.
     pub fn assigns_always(&self, v: u32) -> bool
-        ensures { λ r. ⌜ ((f : List ℕ) (l : Layout) → Surveyed f l (now (self .entry)) → v < countIn l Variables → r ≡ always (blocksTo f l (countIn l Blocks)) v) ⌝ }
+        ensures { (f : List ℕ) (l : Layout) → Surveyed f l self.now → v < count_in l Variables → result ≡ always (blocks_to f l (count_in l Blocks)) v }
     {
         has(&self.assigned.all.always, v)
     }
 
     /// Whether a block that assigns `v` comes after one that assigns `s`.
     pub fn comes_after(&self, blocks: u32, v: u32, s: u32) -> bool
-        ensures { λ r. ⌜ ((f : List ℕ) (l : Layout) → Surveyed f l (now (self .entry)) → v < countIn l Variables → s < countIn l Variables → blocks ≡ countIn l Blocks → r ≡ any (followsIn f l v s) (countIn l Blocks)) ⌝ }
+        ensures { (f : List ℕ) (l : Layout) → Surveyed f l self.now → v < count_in l Variables → s < count_in l Variables → blocks ≡ count_in l Blocks → result ≡ any (follows_in f l v s) (count_in l Blocks) }
     {
         if blocks as usize > self.assigned.each.len() {
             return false;

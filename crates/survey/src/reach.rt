@@ -1,18 +1,12 @@
 //! How commands and blocks assign variables.
-ghost use Rattle·refusal.specs.declared.Section.the-variants.{Blocks};
-ghost use Rattle·language.specs.Syntax.{Expr, Cmd, seq, choice};
-ghost use Rattle·records.specs.Layouts.{countIn};
-ghost use Rattle·records.specs.Trees.{cmdAt};
-ghost use Rattle·survey·specs.Sets.{Reaches, Assigns};
-use crate::sets::MOST_VARIABLES;
-use crate::sets::VariableSet;
-use crate::sets::intersection;
-use crate::sets::only;
-use crate::sets::union;
-use records::Action;
-use records::Layout;
-use records::action_at;
-use records::block_at;
+ghost use Rattle.refusal.specs.declared.Section.TheVariants.{Blocks};
+ghost use Rattle.language.specs.Syntax.{Expr, Cmd, seq, choice};
+ghost use Rattle.records.specs.Layouts.{count_in};
+ghost use Rattle.records.specs.Trees.{cmd_at};
+ghost use Rattle.survey.specs.Sets.{Reaches, Assigns};
+
+use crate::sets::{MOST_VARIABLES, VariableSet, intersection, only, union};
+use records::{Action, Layout, action_at, block_at};
 use refusal::Section;
 
 /// The variables that a command assigns: somewhere, on every path, and twice where the two assignments do not stand in opposite branches.
@@ -32,7 +26,7 @@ pub(crate) struct Assigned {
 
 // What one command after another does.
 fn in_turn(x: &Reach, y: &Reach) -> Reach
-    ensures { λ r. ⌜ ((a b : Cmd) → Reaches a (now (x .entry)) → Reaches b (now (y .entry)) → Reaches (seq a b) r) ⌝ }
+    ensures { (a b : Cmd) → Reaches a x.now → Reaches b y.now → Reaches (seq a b) result }
 {
     let clash = intersection(&x.some, &y.some);
     let inner = union(&x.twice, &y.twice);
@@ -45,7 +39,7 @@ fn in_turn(x: &Reach, y: &Reach) -> Reach
 
 // What one of two commands does.
 fn either_of(x: &Reach, y: &Reach) -> Reach
-    ensures { λ r. ⌜ ((e : Expr) (a b : Cmd) → Reaches a (now (x .entry)) → Reaches b (now (y .entry)) → Reaches (choice e a b) r) ⌝ }
+    ensures { (e : Expr) (a b : Cmd) → Reaches a x.now → Reaches b y.now → Reaches (choice e a b) result }
 {
     Reach {
         some: union(&x.some, &y.some),
@@ -56,7 +50,7 @@ fn either_of(x: &Reach, y: &Reach) -> Reach
 
 // What command `n` does.
 fn reach_of(file: &[u8], l: Layout, n: u32) -> Reach
-    ensures { λ r. ⌜ Reaches (cmdAt (now (file .entry)) l n) r ⌝ }
+    ensures { Reaches (cmd_at file.now l n) result }
 {
     let none = [false; MOST_VARIABLES];
     match action_at(file, l, n) {
@@ -85,7 +79,7 @@ fn reach_of(file: &[u8], l: Layout, n: u32) -> Reach
 
 /// What the blocks do.
 pub(crate) fn assigned_by(file: &[u8], l: Layout) -> Assigned
-    ensures { λ r. ⌜ Assigns (now (file .entry)) l (countIn l Blocks) (r .all) (r .each) ⌝ }
+    ensures { Assigns file.now l (count_in l Blocks) result.all result.each }
 {
     let none = [false; MOST_VARIABLES];
     let mut all = Reach {

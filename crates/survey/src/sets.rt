@@ -1,9 +1,6 @@
 //! Sets of variables.
-ghost use mathlib.Core.Path.{_≡_};
-ghost use mathlib.Core.Bool.{Bool, false, _&&_, _||_};
-ghost use Prim.Native.Nat.{ℕ};
-ghost use lib.Dec.{eqb};
-ghost use Rattle·survey·specs.Sets.{Lists};
+ghost use Rattle.std.specs.Prelude.{◌≡◌, ℕ, Bool, false, ◌&&◌, ◌||◌, nat_eq};
+ghost use Rattle.survey.specs.Sets.{Lists};
 
 /// The most variables of a design.
 pub(crate) const MOST_VARIABLES: usize = 128;
@@ -12,20 +9,20 @@ pub(crate) const MOST_VARIABLES: usize = 128;
 pub(crate) type VariableSet = [bool; MOST_VARIABLES];
 
 pub(crate) fn either(a: bool, b: bool) -> bool
-    ensures { λ r. ⌜ r ≡ (a || b) ⌝ }
+    ensures { result ≡ (a || b) }
 {
     a || b
 }
 
 pub(crate) fn both(a: bool, b: bool) -> bool
-    ensures { λ r. ⌜ r ≡ (a && b) ⌝ }
+    ensures { result ≡ (a && b) }
 {
     a && b
 }
 
 // The set of one variable.
 pub(crate) fn only(u: u32) -> VariableSet
-    ensures { λ r. ⌜ Lists r (eqb u) ⌝ }
+    ensures { Lists result (nat_eq u) }
 {
     let mut set = [false; MOST_VARIABLES];
     let i = u as usize;
@@ -36,7 +33,7 @@ pub(crate) fn only(u: u32) -> VariableSet
 }
 
 pub(crate) fn union(a: &VariableSet, b: &VariableSet) -> VariableSet
-    ensures { λ r. ⌜ ((s t : ℕ → Bool) → Lists (now (a .entry)) s → Lists (now (b .entry)) t → Lists r (λ v. s v || t v)) ⌝ }
+    ensures { (s t : ℕ → Bool) → Lists a.now s → Lists b.now t → Lists result (λ v. s v || t v) }
 {
     let mut set = [false; MOST_VARIABLES];
     for v in 0..MOST_VARIABLES {
@@ -46,7 +43,7 @@ pub(crate) fn union(a: &VariableSet, b: &VariableSet) -> VariableSet
 }
 
 pub(crate) fn intersection(a: &VariableSet, b: &VariableSet) -> VariableSet
-    ensures { λ r. ⌜ ((s t : ℕ → Bool) → Lists (now (a .entry)) s → Lists (now (b .entry)) t → Lists r (λ v. s v && t v)) ⌝ }
+    ensures { (s t : ℕ → Bool) → Lists a.now s → Lists b.now t → Lists result (λ v. s v && t v) }
 {
     let mut set = [false; MOST_VARIABLES];
     for v in 0..MOST_VARIABLES {

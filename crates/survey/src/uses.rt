@@ -1,22 +1,14 @@
 //! How often each command and each expression is used, counted in one pass.
-ghost use mathlib.Core.Path.{_≡_};
-ghost use mathlib.Core.List.{List};
-ghost use Prim.Native.Nat.{ℕ, _<_};
-ghost use lib.Dec.{eqb};
-ghost use Rattle·refusal.specs.declared.Section.the-variants.{Blocks, Commands, Expressions};
-ghost use Rattle·records.specs.declared.layout.Layout.{Layout};
-ghost use Rattle·records.specs.Layouts.{countIn};
-ghost use Rattle·survey·specs.Sums.{total};
-ghost use Rattle·survey·specs.Uses.{use-of, parts-of, values-of, operands-of, topUse, partUse, valueUse, operandUse, commandUsed, exprUsed, Adds, Counts};
-use records::Command;
-use records::Expression;
-use records::Layout;
-use records::Operation;
-use records::Step;
-use records::block_at;
-use records::byte;
-use records::command_at;
-use records::expression_at;
+ghost use Rattle.std.specs.Prelude.{◌≡◌, ℕ, ◌<◌, List, ◌==◌};
+ghost use Rattle.refusal.specs.declared.Section.TheVariants.{Blocks, Commands, Expressions};
+ghost use Rattle.records.specs.declared.layout.Layout.{Layout};
+ghost use Rattle.records.specs.Layouts.{count_in};
+ghost use Rattle.survey.specs.Sums.{total};
+ghost use Rattle.survey.specs.Uses.{use_of, parts_of, values_of, operands_of, top_use, part_use, value_use, operand_use, command_used, expr_used, Adds, Counts};
+
+use records::{
+    Command, Expression, Layout, Operation, Step, block_at, byte, command_at, expression_at,
+};
 use refusal::Section;
 
 /// How often each record is used, with 2 for all that is more.
@@ -28,7 +20,7 @@ pub struct Uses {
 
 // One more use of record `n`.
 fn add_use(uses: &mut [u8], n: u32)
-    ensures { λ _. ⌜ Adds (now (uses .entry)) (now (uses .exit)) (use-of n) ⌝ }
+    ensures { Adds uses.old uses.new (use_of n) }
 {
     let i = n as usize;
     if i < uses.len() {
@@ -40,7 +32,7 @@ fn add_use(uses: &mut [u8], n: u32)
 
 // The parts of a command.
 fn add_parts(uses: &mut [u8], x: Command)
-    ensures { λ _. ⌜ Adds (now (uses .entry)) (now (uses .exit)) (parts-of x) ⌝ }
+    ensures { Adds uses.old uses.new (parts_of x) }
 {
     match x.step {
         Step::Both => {
@@ -57,7 +49,7 @@ fn add_parts(uses: &mut [u8], x: Command)
 
 // The expressions that a command uses.
 fn add_values(uses: &mut [u8], x: Command)
-    ensures { λ _. ⌜ Adds (now (uses .entry)) (now (uses .exit)) (values-of x) ⌝ }
+    ensures { Adds uses.old uses.new (values_of x) }
 {
     match x.step {
         Step::Choose => add_use(uses, x.a),
@@ -68,7 +60,7 @@ fn add_values(uses: &mut [u8], x: Command)
 
 // The parts of an expression.
 fn add_operands(uses: &mut [u8], x: Expression)
-    ensures { λ _. ⌜ Adds (now (uses .entry)) (now (uses .exit)) (operands-of x) ⌝ }
+    ensures { Adds uses.old uses.new (operands_of x) }
 {
     match x.operation {
         Operation::Not | Operation::ShiftLeft | Operation::ShiftRight | Operation::Part => {
@@ -92,7 +84,7 @@ fn add_operands(uses: &mut [u8], x: Expression)
 }
 
 fn count_tops(uses: &mut [u8], file: &[u8], l: Layout)
-    ensures { λ _. ⌜ Adds (now (uses .entry)) (now (uses .exit)) (λ n. total (topUse (now (file .entry)) l n) (countIn l Blocks)) ⌝ }
+    ensures { Adds uses.old uses.new (λ n. total (top_use file.now l n) (count_in l Blocks)) }
 {
     for k in 0..l.count(Section::Blocks) {
         add_use(uses, block_at(file, l, k).top);
@@ -100,7 +92,7 @@ fn count_tops(uses: &mut [u8], file: &[u8], l: Layout)
 }
 
 fn count_parts(uses: &mut [u8], file: &[u8], l: Layout)
-    ensures { λ _. ⌜ Adds (now (uses .entry)) (now (uses .exit)) (λ n. total (partUse (now (file .entry)) l n) (countIn l Commands)) ⌝ }
+    ensures { Adds uses.old uses.new (λ n. total (part_use file.now l n) (count_in l Commands)) }
 {
     for k in 0..l.count(Section::Commands) {
         add_parts(uses, command_at(file, l, k));
@@ -108,7 +100,7 @@ fn count_parts(uses: &mut [u8], file: &[u8], l: Layout)
 }
 
 fn count_values(uses: &mut [u8], file: &[u8], l: Layout)
-    ensures { λ _. ⌜ Adds (now (uses .entry)) (now (uses .exit)) (λ n. total (valueUse (now (file .entry)) l n) (countIn l Commands)) ⌝ }
+    ensures { Adds uses.old uses.new (λ n. total (value_use file.now l n) (count_in l Commands)) }
 {
     for k in 0..l.count(Section::Commands) {
         add_values(uses, command_at(file, l, k));
@@ -116,7 +108,7 @@ fn count_values(uses: &mut [u8], file: &[u8], l: Layout)
 }
 
 fn count_operands(uses: &mut [u8], file: &[u8], l: Layout)
-    ensures { λ _. ⌜ Adds (now (uses .entry)) (now (uses .exit)) (λ n. total (operandUse (now (file .entry)) l n) (countIn l Expressions)) ⌝ }
+    ensures { Adds uses.old uses.new (λ n. total (operand_use file.now l n) (count_in l Expressions)) }
 {
     for k in 0..l.count(Section::Expressions) {
         add_operands(uses, expression_at(file, l, k));
@@ -125,7 +117,7 @@ fn count_operands(uses: &mut [u8], file: &[u8], l: Layout)
 
 /// Counts all uses.
 pub fn uses_of(file: &[u8], l: Layout) -> Uses
-    ensures { λ r. ⌜ Counts (now (file .entry)) l r ⌝ }
+    ensures { Counts file.now l result }
 {
     let mut commands = [0; 512];
     count_tops(&mut commands, file, l);
@@ -142,14 +134,14 @@ pub fn uses_of(file: &[u8], l: Layout) -> Uses
 impl Uses {
     /// Whether command `n` is used once.
     pub fn once_command(&self, n: u32) -> bool
-        ensures { λ r. ⌜ ((f : List ℕ) (l : Layout) → Counts f l (now (self .entry)) → n < countIn l Commands → r ≡ eqb (commandUsed f l n) 1) ⌝ }
+        ensures { (f : List ℕ) (l : Layout) → Counts f l self.now → n < count_in l Commands → result ≡ (command_used f l n == 1) }
     {
         byte(&self.commands, n as usize) == 1
     }
 
     /// Whether expression `n` is used once.
     pub fn once_expression(&self, n: u32) -> bool
-        ensures { λ r. ⌜ ((f : List ℕ) (l : Layout) → Counts f l (now (self .entry)) → n < countIn l Expressions → r ≡ eqb (exprUsed f l n) 1) ⌝ }
+        ensures { (f : List ℕ) (l : Layout) → Counts f l self.now → n < count_in l Expressions → result ≡ (expr_used f l n == 1) }
     {
         byte(&self.expressions, n as usize) == 1
     }

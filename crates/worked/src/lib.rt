@@ -1,8 +1,8 @@
 //! The worked rows hold of the definitions.
-ghost use Rattle·lattice.specs.Meaning.{All};
-ghost use Rattle·worked·specs.Rows.{Holds, rows};
+ghost use Rattle.lattice.specs.Meaning.{All};
+ghost use Rattle.worked.specs.Rows.{Holds, rows};
 
 /// Every worked row holds.
 pub fn rows_hold()
-    ensures { λ _. ⌜ All Holds rows ⌝ }
+    ensures { All Holds rows }
 {}

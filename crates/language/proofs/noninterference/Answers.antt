@@ -1,5 +1,5 @@
-use Rattle·language·proofs.noninterference.Needs as need
-use Rattle·language·proofs.Runs.{noninterference}
+use Rattle.language.proofs.noninterference.Goals as goal
+use Rattle.language.proofs.Runs.{noninterference}
 
-pub returns : need.returns
+pub returns : goal.returns
 returns c = noninterference

@@ -1,5 +1,5 @@
-use Rattle·language·proofs.offences_condemn.Needs as need
-use Rattle·language·proofs.Offences.{offences-condemn}
+use Rattle.language.proofs.offences_condemn.Goals as goal
+use Rattle.language.proofs.Offences.{offences_condemn}
 
-pub returns : need.returns
-returns c = offences-condemn
+pub returns : goal.returns
+returns c = offences_condemn

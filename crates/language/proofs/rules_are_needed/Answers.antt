@@ -1,5 +1,5 @@
-use Rattle·language·proofs.rules_are_needed.Needs as need
-use Rattle·language·proofs.Leaks.{leaks}
+use Rattle.language.proofs.rules_are_needed.Goals as goal
+use Rattle.language.proofs.Leaks.{leaks}
 
-pub returns : need.returns
+pub returns : goal.returns
 returns c = leaks

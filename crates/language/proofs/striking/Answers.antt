@@ -1,5 +1,5 @@
-use Rattle·language·proofs.striking.Needs as need
-use Rattle·language·proofs.Struck.{striking}
+use Rattle.language.proofs.striking.Goals as goal
+use Rattle.language.proofs.Struck.{striking}
 
-pub returns : need.returns
+pub returns : goal.returns
 returns c = striking

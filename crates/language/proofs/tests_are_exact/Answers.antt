@@ -1,5 +1,5 @@
-use Rattle·language·proofs.tests_are_exact.Needs as need
-use Rattle·language·proofs.Exact.{tests-are-exact}
+use Rattle.language.proofs.tests_are_exact.Goals as goal
+use Rattle.language.proofs.Exact.{tests_are_exact}
 
-pub returns : need.returns
-returns c = tests-are-exact
+pub returns : goal.returns
+returns c = tests_are_exact

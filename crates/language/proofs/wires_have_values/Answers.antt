@@ -1,5 +1,5 @@
-use Rattle·language·proofs.wires_have_values.Needs as need
-use Rattle·language·proofs.Runs.{wires-have-values}
+use Rattle.language.proofs.wires_have_values.Goals as goal
+use Rattle.language.proofs.Runs.{wires_have_values}
 
-pub returns : need.returns
-returns c = wires-have-values
+pub returns : goal.returns
+returns c = wires_have_values

@@ -1,28 +1,26 @@
-use mathlib.Core.Path.{refl}
-use native.Mathlib.Omega.{arith}
-use lib.Dec.{lit<}
-use Rattle·lattice.proofs.Owners.{sets-joins, sets-meets}
-use Rattle·worked·proofs.Taking.{taking-formed, taking-1-typed, taking-2-breaks}
-use Rattle·worked·proofs.Remembering.{one-formed, one-flows, one-breaks, both-formed, both-typed}
-use Rattle·worked·proofs.rows_hold.Needs as need
+use Rattle.std.proofs.Common.{refl, arith, lit<}
+use Rattle.lattice.proofs.Owners.{sets_joins, sets_meets}
+use Rattle.worked.proofs.Taking.{taking_formed, taking_1_typed, taking_2_breaks}
+use Rattle.worked.proofs.Remembering.{one_formed, one_flows, one_breaks, both_formed, both_typed}
+use Rattle.worked.proofs.rows_hold.Goals as goal
 
 -- one row, and those after it
-infixr 5 _⨾_
-_⨾_ : {A B : Type 0} → A → B → A × B
+infixr 5 ◌⨾◌
+◌⨾◌ : {A B : Type 0} → A → B → A × B
 a ⨾ b = (a, b)
 
-pub returns : need.returns
+pub returns : goal.returns
 returns c =
-    sets-joins 3 5 3 (omega arith) (omega arith)
-    ⨾ sets-meets 3 5 3 (omega arith) (omega arith)
+    sets_joins 3 5 3 (omega arith) (omega arith)
+    ⨾ sets_meets 3 5 3 (omega arith) (omega arith)
     ⨾ refl
     ⨾ refl
     ⨾ refl
     ⨾ refl
     ⨾ refl
-    ⨾ (taking-formed 1 (lit< tt), taking-1-typed)
-    ⨾ (taking-formed 2 (lit< tt), taking-2-breaks)
-    ⨾ (one-formed, tt, one-flows, one-breaks)
-    ⨾ (both-formed, both-typed)
+    ⨾ (taking_formed 1 (lit< tt), taking_1_typed)
+    ⨾ (taking_formed 2 (lit< tt), taking_2_breaks)
+    ⨾ (one_formed, tt, one_flows, one_breaks)
+    ⨾ (both_formed, both_typed)
     ⨾ refl
     ⨾ tt

@@ -1,6 +1,6 @@
-use mathlib.Core.Path.{refl}
-use Rattle·std.proofs.shelf.Lists.{take-at}
-use Rattle·clearance·proofs.table.padded.Needs as need
+use Rattle.std.proofs.Common.{refl}
+use Rattle.std.proofs.lemmas.List.{take_at}
+use Rattle.clearance.proofs.table.padded.Goals as goal
 
-pub returns : need.returns
-returns c = simp (c .copy-from-slice .ensures .after) (take-at (c .args .bytes .now) _ _ refl)
+pub returns : goal.returns
+returns c = simp c.copy-from-slice.ensures.after (take_at c.args.bytes.now _ _ refl)

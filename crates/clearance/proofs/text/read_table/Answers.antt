@@ -1,6 +1,6 @@
-use native.Mathlib.Omega.{arith}
-use Rattle·clearance·proofs.Squares.{square}
-use Rattle·clearance·proofs.text.read_table.Needs as need
+use Rattle.std.proofs.Common.{arith}
+use Rattle.clearance.proofs.Squares.{square}
+use Rattle.clearance.proofs.text.read_table.Goals as goal
 
-pub part-new-end : need.part-new-end
-part-new-end c = omega (arith, square (c .line-count-n .result) (omega arith))
+pub slice-bounds-new-end : goal.slice-bounds-new-end
+slice-bounds-new-end c = omega (arith, square c.line-count-n.result (omega arith))

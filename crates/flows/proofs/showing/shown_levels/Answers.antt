@@ -1,20 +1,20 @@
-use mathlib.Core.Path.{_≡_, ap, _∙_}
-use Rattle·language.specs.Syntax.{var}
-use Rattle·language.specs.Finite.{place-of}
-use Rattle·records.specs.Trees.{designOf}
-use Rattle·paths.specs.Marks.{placeOf, shapeOf, setsOf, flagsOf}
-use Rattle·flows·specs.Findings.{valuesOf}
-use Rattle·flows·proofs.Alike.{few}
-use Rattle·flows·proofs.Exposing.{exposed}
-use Rattle·flows·proofs.showing.shown_levels.Needs as need
+use Rattle.std.proofs.Common.{◌≡◌, ap, ◌∙◌}
+use Rattle.language.specs.Syntax.{var}
+use Rattle.language.specs.Finite.{label_place}
+use Rattle.records.specs.Trees.{design_of}
+use Rattle.paths.specs.Marks.{place_of, shape_of, sets_of, flags_of}
+use Rattle.flows.specs.Findings.{values_of}
+use Rattle.flows.proofs.Alike.{few}
+use Rattle.flows.proofs.Exposing.{exposed}
+use Rattle.flows.proofs.showing.shown_levels.Goals as goal
 
-pub returns : need.returns
+pub returns : goal.returns
 returns g c levelled offends =
-    let m = g .L·Lattice .meaning (c .args .lattice .now) in
-    let f = c .args .file .now in
-    let d = designOf f (c .args .l) in
-    let is-p : placeOf (c .origin-of-p .result) ≡ place-of (var d (c .args .o .variable) .label) = c .origin-of-p .ensures ∙ ap place-of (c .label-of .ensures) in
-    exposed m (g .L·Lattice·met .lawful (c .args .lattice .now)) d (few f (c .args .l)) (setsOf (c .args .sets .now)) (flagsOf (c .args .flow .now)) (c .args .u) (shapeOf (c .args .shape))
-    (c .args .o) offends (placeOf (c .origin-of-p .result)) (placeOf (c .target-origin-q .result)) is-p (c .target-origin-q .ensures)
-    (valuesOf (c .some-values-base .result)) (valuesOf (c .put-there .result)) (valuesOf (c .put-there-values .result)) (c .some-values-base .ensures) (c .put-there .ensures) (c .put-there-values .ensures)
-    (c .flow-level .result) (c .level-at .result) (c .flow-level .ensures levelled) (c .level-at .ensures)
+    let m = g.L.Lattice.meaning c.args.lattice.now in
+    let f = c.args.file.now in
+    let d = design_of f c.args.l in
+    let is-p : place_of c.origin-of-p.result ≡ label_place (var d c.args.o.variable).label = c.origin-of-p.ensures ∙ ap label_place c.label-of.ensures in
+    exposed m (g.met.L.Lattice.lawful c.args.lattice.now) d (few f c.args.l) (sets_of c.args.sets.now) (flags_of c.args.flow.now) c.args.u (shape_of c.args.shape)
+    c.args.o offends (place_of c.origin-of-p.result) (place_of c.target-origin-q.result) is-p c.target-origin-q.ensures
+    (values_of c.some-values-base.result) (values_of c.put-there.result) (values_of c.put-there-values.result) c.some-values-base.ensures c.put-there.ensures c.put-there-values.ensures
+    c.flow-level.result c.level_at.result (c.flow-level.ensures levelled) c.level_at.ensures

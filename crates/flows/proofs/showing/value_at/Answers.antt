@@ -1,11 +1,8 @@
-use mathlib.Core.Path.{sym}
-use native.Mathlib.Omega.{arith}
-use Prim.Native.Nat.{_≤_}
-use lib.ListN.{length}
-use Rattle·std.proofs.shelf.Lists.{getD-past}
-use Rattle·flows·proofs.showing.value_at.Needs as need
+use Rattle.std.proofs.Common.{◌≤◌, length, sym, arith}
+use Rattle.std.proofs.lemmas.List.{get_or_past}
+use Rattle.flows.proofs.showing.value_at.Goals as goal
 
-pub returns-else-v-lt128 : need.returns-else-v-lt128
+pub returns-else-v-lt128 : goal.returns-else-v-lt128
 returns-else-v-lt128 c =
-    let h : length (c .args .values .now) ≤ c .args .v = omega arith in
-    sym (getD-past (c .args .values .now) (c .args .v) 0 h)
+    let h : length c.args.values.now ≤ c.args.v = omega arith in
+    sym (get_or_past c.args.values.now c.args.v 0 h)

@@ -1,8 +1,8 @@
-use Rattle·std.proofs.shelf.Results.{err-from-errBy}
-use Rattle·judgement·proofs.Telling.{form-told}
-use Rattle·judgement·proofs.accepted.judge_file.Needs as need
+use Rattle.std.proofs.lemmas.Result.{err_from_is_err_and}
+use Rattle.judgement.proofs.Telling.{form_told}
+use Rattle.judgement.proofs.accepted.judge_file.Goals as goal
 
-pub returns-in-Break-read-design : need.returns-in-Break-read-design
-returns-in-Break-read-design g c =
-    let p = err-from-errBy (c .from-residual .result) (c .from-residual .ensures .1) in
-    rw (p .1, p .2) (form-told (g .L·Lattice .meaning (c .args .lattice .now)) (c .args .file .now) _ (c .in-Break-read-design .ensures tt .exact))
+pub returns-in-err-read-design : goal.returns-in-err-read-design
+returns-in-err-read-design g c =
+    let p = err_from_is_err_and c.from-residual.result c.from-residual.ensures.1 in
+    rw (p.1, p.2) (form_told (g.L.Lattice.meaning c.args.lattice.now) c.args.file.now _ c.in-err-read-design.ensures.exact)

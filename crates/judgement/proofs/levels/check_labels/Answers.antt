@@ -1,24 +1,22 @@
-use mathlib.Core.Path.{refl}
-use native.Mathlib.Omega.{arith}
-use borrow.Author.Count.{below-more}
-use Rattle·std.proofs.shelf.Tests.{both-ways}
-use Rattle·language.specs.Typing.{Label-level}
-use Rattle·records.specs.Trees.{designOf}
-use Rattle·judgement·proofs.Bounds.{labels-from}
-use Rattle·judgement·proofs.levels.check_labels.Needs as need
+use Rattle.std.proofs.Common.{refl, arith, below_more}
+use Rattle.std.proofs.lemmas.Bool.{both_ways}
+use Rattle.language.specs.Typing.{LabelLevel}
+use Rattle.records.specs.Trees.{design_of}
+use Rattle.judgement.proofs.Bounds.{labels_from}
+use Rattle.judgement.proofs.levels.check_labels.Goals as goal
 
-pub returns-then-not-is-label-fine : need.returns-then-not-is-label-fine
+pub returns-then-not-is-label-fine : goal.returns-then-not-is-label-fine
 returns-then-not-is-label-fine g c = record {
-  at = c .loop-v .v;
+  at = c.loop-v.v;
   is = refl;
-  found = record { here = λ h. both-ways (c .is-label-fine .result) (c .if-not-is-label-fine .taken) (c .is-label-fine .ensures .1 h); lower = c .loop-v .inv };
+  found = record { here = λ h. both_ways c.is-label-fine.result c.if-not-is-label-fine.true (c.is-label-fine.ensures.1 h); lower = c.loop-v.invariant };
 }
 
-pub loop-v-again : need.loop-v-again
-loop-v-again g c =
-    below-more (Label-level (g .L·Lattice .meaning (c .args .lattice .now)) (designOf (c .args .file .now) (c .args .l))) (c .loop-v .v) (c .loop-v .inv) (c .is-label-fine .ensures .0 (c .if-not-is-label-fine .left))
+pub loop-v-preserved : goal.loop-v-preserved
+loop-v-preserved g c =
+    below_more (LabelLevel (g.L.Lattice.meaning c.args.lattice.now) (design_of c.args.file.now c.args.l)) c.loop-v.v c.loop-v.invariant (c.is-label-fine.ensures.0 c.if-not-is-label-fine.false)
 
-pub returns : need.returns
+pub returns : goal.returns
 returns g c =
-    labels-from (g .L·Lattice .meaning (c .args .lattice .now)) (designOf (c .args .file .now) (c .args .l)) (g .L·Lattice·met .lawful (c .args .lattice .now))
-    (λ v h. c .loop-v .inv v (omega (arith, h, c .variable-count-count .ensures .is)))
+    labels_from (g.L.Lattice.meaning c.args.lattice.now) (design_of c.args.file.now c.args.l) (g.met.L.Lattice.lawful c.args.lattice.now)
+    (λ v h. c.loop-v.invariant v (omega (arith, h, c.variable-count-count.ensures.is)))

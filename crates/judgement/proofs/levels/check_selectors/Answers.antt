@@ -1,9 +1,9 @@
-use native.Mathlib.Omega.{arith}
-use Rattle·records.specs.Trees.{designOf}
-use Rattle·judgement·proofs.Bounds.{tests-from}
-use Rattle·judgement·proofs.levels.check_selectors.Needs as need
+use Rattle.std.proofs.Common.{arith}
+use Rattle.records.specs.Trees.{design_of}
+use Rattle.judgement.proofs.Bounds.{tests_from}
+use Rattle.judgement.proofs.levels.check_selectors.Goals as goal
 
-pub returns : need.returns
+pub returns : goal.returns
 returns g c =
-    tests-from (g .L·Lattice .meaning (c .args .lattice .now)) (designOf (c .args .file .now) (c .args .l))
-    (λ v h. c .loop-v .inv v (omega (arith, h, c .variable-count-count .ensures .is)))
+    tests_from (g.L.Lattice.meaning c.args.lattice.now) (design_of c.args.file.now c.args.l)
+    (λ v h. c.loop-v.invariant v (omega (arith, h, c.variable-count-count.ensures.is)))

@@ -1,15 +1,14 @@
-use native.Mathlib.Omega.{arith}
-use borrow.Author.Count.{below-more}
-use Rattle·language.specs.Typing.{Table-levels}
-use Rattle·records.specs.Trees.{designOf}
-use Rattle·judgement·proofs.Bounds.{tables-from}
-use Rattle·judgement·proofs.levels.check_tables.Needs as need
+use Rattle.std.proofs.Common.{arith, below_more}
+use Rattle.language.specs.Typing.{TableLevels}
+use Rattle.records.specs.Trees.{design_of}
+use Rattle.judgement.proofs.Bounds.{tables_from}
+use Rattle.judgement.proofs.levels.check_tables.Goals as goal
 
-pub loop-t-again : need.loop-t-again
-loop-t-again g c =
-    below-more (Table-levels (g .L·Lattice .meaning (c .args .lattice .now)) (designOf (c .args .file .now) (c .args .l))) (c .loop-t .t) (c .loop-t .inv) (c .is-table-fine .ensures .0 (c .if-not-is-table-fine .left))
+pub loop-t-preserved : goal.loop-t-preserved
+loop-t-preserved g c =
+    below_more (TableLevels (g.L.Lattice.meaning c.args.lattice.now) (design_of c.args.file.now c.args.l)) c.loop-t.t c.loop-t.invariant (c.is-table-fine.ensures.0 c.if-not-is-table-fine.false)
 
-pub returns : need.returns
+pub returns : goal.returns
 returns g c =
-    tables-from (g .L·Lattice .meaning (c .args .lattice .now)) (designOf (c .args .file .now) (c .args .l)) (g .L·Lattice·met .lawful (c .args .lattice .now))
-    (λ t h. c .loop-t .inv t (omega (arith, h, c .table-count-count .ensures)))
+    tables_from (g.L.Lattice.meaning c.args.lattice.now) (design_of c.args.file.now c.args.l) (g.met.L.Lattice.lawful c.args.lattice.now)
+    (λ t h. c.loop-t.invariant t (omega (arith, h, c.table-count-count.ensures)))

@@ -1,21 +1,19 @@
-use mathlib.Core.Path.{_≡_, sym, subst}
-use native.Mathlib.Omega.{arith}
-use Prim.Native.Nat.{_+_}
-use Rattle·refusal.specs.declared.Section.the-variants.{Blocks}
-use Rattle·records.specs.Layouts.{countIn}
-use Rattle·judgement·specs.Findings.{Stayed-to}
-use Rattle·judgement·proofs.Lowest.{stayed-more, stayed-whole}
-use Rattle·judgement·proofs.staying.lowest.Needs as need
+use Rattle.std.proofs.Common.{◌≡◌, ◌+◌, sym, subst, arith}
+use Rattle.refusal.specs.declared.Section.TheVariants.{Blocks}
+use Rattle.records.specs.Layouts.{count_in}
+use Rattle.judgement.specs.Findings.{StayedTo}
+use Rattle.judgement.proofs.Lowest.{stayed_more, stayed_whole}
+use Rattle.judgement.proofs.staying.lowest.Goals as goal
 
-pub loop-b-again : need.loop-b-again
-loop-b-again g c =
-    let m = g .L·Lattice .meaning (c .args .lattice .now) in
-    let f = c .args .file .now in
-    let l = c .args .l in
-    subst (Stayed-to m f l (c .loop-b .b + 1)) (sym (c .lower-found .ensures))
-    (stayed-more m f l (c .loop-b .b) (c .loop-b .found) (c .lowest-in-block .result) (c .loop-b .inv) (c .lowest-in-block .ensures))
+pub loop-b-preserved : goal.loop-b-preserved
+loop-b-preserved g c =
+    let m = g.L.Lattice.meaning c.args.lattice.now in
+    let f = c.args.file.now in
+    let l = c.args.l in
+    subst (StayedTo m f l (c.loop-b.b + 1)) (sym c.lower-found.ensures)
+    (stayed_more m f l c.loop-b.b c.loop-b.found c.lowest-in-block.result c.loop-b.invariant c.lowest-in-block.ensures)
 
-pub returns : need.returns
+pub returns : goal.returns
 returns g c =
-    let is : c .loop-b .b ≡ countIn (c .args .l) Blocks = omega (arith, c .count-b-end .ensures .is) in
-    stayed-whole (g .L·Lattice .meaning (c .args .lattice .now)) (c .args .file .now) (c .args .l) (c .loop-b .b) (c .loop-b .found) is (c .loop-b .inv)
+    let is : c.loop-b.b ≡ count_in c.args.l Blocks = omega (arith, c.count-b-end.ensures.is) in
+    stayed_whole (g.L.Lattice.meaning c.args.lattice.now) c.args.file.now c.args.l c.loop-b.b c.loop-b.found is c.loop-b.invariant

@@ -1,18 +1,16 @@
-use mathlib.Core.Path.{_≡_, sym, ap, subst, _∙_}
-use mathlib.Core.Bool.{false}
-use mathlib.Core.List.{[]}
-use Rattle·records.specs.declared.cells.Block.{Block}
-use Rattle·records.specs.Trees.{settledAt, isSettled, cmdAt, designOf}
-use Rattle·judgement·specs.Findings.{Stayed}
-use Rattle·judgement·proofs.Lowest.{stayed-clocked, not-true}
-use Rattle·judgement·proofs.staying.lowest_in_block.Needs as need
+use Rattle.std.proofs.Common.{◌≡◌, false, [], sym, ap, ◌∙◌, subst}
+use Rattle.records.specs.declared.cells.Block.{Block}
+use Rattle.records.specs.Trees.{settled_at, is_settled, cmd_at, design_of}
+use Rattle.judgement.specs.Findings.{Stayed}
+use Rattle.judgement.proofs.Lowest.{stayed_clocked, not_true}
+use Rattle.judgement.proofs.staying.lowest_in_block.Goals as goal
 
-pub returns : need.returns
+pub returns : goal.returns
 returns g c =
-    let m = g .L·Lattice .meaning (c .args .lattice .now) in
-    let f = c .args .file .now in
-    let l = c .args .l in
-    let off : settledAt f l (c .args .b) ≡ false =
-    ap (λ (x : Block). isSettled (x .kind)) (sym (c .block-at-block .ensures)) ∙ not-true (isSettled (c .block-at-block .result .kind)) (sym (c .is-clocked .ensures) ∙ c .if-not-is-clocked .left) in
-    stayed-clocked m f l (c .args .b) (c .lowest-in .result) off
-    (subst (λ (x : Block). Stayed m (designOf f l) [] (cmdAt f l (x .top)) (c .lowest-in .result)) (c .block-at-block .ensures) (c .lowest-in .ensures [] (c .start .ensures)))
+    let m = g.L.Lattice.meaning c.args.lattice.now in
+    let f = c.args.file.now in
+    let l = c.args.l in
+    let off : settled_at f l c.args.b ≡ false =
+    ap (λ (x : Block). is_settled x.kind) (sym c.block-at-block.ensures) ∙ not_true (is_settled c.block-at-block.result.kind) (sym c.is-clocked.ensures ∙ c.if-not-is-clocked.false) in
+    stayed_clocked m f l c.args.b c.lowest-in.result off
+    (subst (λ (x : Block). Stayed m (design_of f l) [] (cmd_at f l x.top) c.lowest-in.result) c.block-at-block.ensures (c.lowest-in.ensures [] c.start.ensures))

@@ -1,25 +1,23 @@
-use mathlib.Core.Path.{sym, ap, _∙_}
-use Prim.Native.Nat.{_<_}
-use native.Mathlib.Omega.{arith}
-use Rattle·refusal.specs.declared.Section.the-variants.{Blocks}
-use Rattle·language.specs.Machine.{gets}
-use Rattle·records.specs.Layouts.{countIn}
-use Rattle·records.specs.Trees.{designOf}
-use Rattle·machine·specs.Holding.{valuation}
-use Rattle·machine·proofs.Turns.{settles-all, gives-more, gives-here}
-use Rattle·machine·proofs.blocks.gets_value.Needs as need
+use Rattle.std.proofs.Common.{◌<◌, sym, ap, ◌∙◌, arith}
+use Rattle.refusal.specs.declared.Section.TheVariants.{Blocks}
+use Rattle.language.specs.Machine.{gets}
+use Rattle.records.specs.Layouts.{count_in}
+use Rattle.records.specs.Trees.{design_of}
+use Rattle.machine.specs.Holding.{valuation}
+use Rattle.machine.proofs.Turns.{settles_all, gives_more, gives_here}
+use Rattle.machine.proofs.blocks.gets_value.Goals as goal
 
-pub loop-b-holds : need.loop-b-holds
-loop-b-holds c =
-    let e = settles-all (c .args .file .now) (c .args .l) in
-    (omega arith, ap (λ cs. gets (valuation (c .args .held .now)) cs (c .args .v)) e)
+pub loop-b-init : goal.loop-b-init
+loop-b-init c =
+    let e = settles_all c.args.file.now c.args.l in
+    (omega arith, ap (λ cs. gets (valuation c.args.held.now) cs c.args.v) e)
 
-pub returns-then-block-writes : need.returns-then-block-writes
+pub returns-then-block-writes : goal.returns-then-block-writes
 returns-then-block-writes c =
-    let low : c .loop-b .b < countIn (c .args .l) Blocks = omega (arith, c .count-b-end .ensures .is, c .loop-b-test .taken) in
-    gives-here (c .args .file .now) (c .args .l) (c .loop-b .values) (c .loop-b .b) (c .args .v) (gets (valuation (c .args .held .now)) (designOf (c .args .file .now) (c .args .l) .settled) (c .args .v)) low (sym (c .block-writes .ensures) ∙ c .if-block-writes .taken) (c .loop-b .inv .1)
+    let low : c.loop-b.b < count_in c.args.l Blocks = omega (arith, c.count-b-end.ensures.is, c.loop-b-test.true) in
+    gives_here c.args.file.now c.args.l c.loop-b.values c.loop-b.b c.args.v (gets (valuation c.args.held.now) (design_of c.args.file.now c.args.l).settled c.args.v) low (sym c.block-writes.ensures ∙ c.if-block-writes.true) c.loop-b.invariant.1
 
-pub loop-b-again : need.loop-b-again
-loop-b-again c =
-    let low : c .loop-b .b < countIn (c .args .l) Blocks = omega (arith, c .count-b-end .ensures .is, c .loop-b-test .taken) in
-    (omega (arith, low), gives-more (c .args .file .now) (c .args .l) (c .loop-b .values) (c .settle-block .last .held) (c .loop-b .b) (c .args .v) (gets (valuation (c .args .held .now)) (designOf (c .args .file .now) (c .args .l) .settled) (c .args .v)) low (c .settle-block .ensures) (sym (c .block-writes .ensures) ∙ c .if-block-writes .left) (c .loop-b .inv .1))
+pub loop-b-preserved : goal.loop-b-preserved
+loop-b-preserved c =
+    let low : c.loop-b.b < count_in c.args.l Blocks = omega (arith, c.count-b-end.ensures.is, c.loop-b-test.true) in
+    (omega (arith, low), gives_more c.args.file.now c.args.l c.loop-b.values c.settle-block.new.held c.loop-b.b c.args.v (gets (valuation c.args.held.now) (design_of c.args.file.now c.args.l).settled c.args.v) low c.settle-block.ensures (sym c.block-writes.ensures ∙ c.if-block-writes.false) c.loop-b.invariant.1)

@@ -1,8 +1,8 @@
-use Rattle·records.specs.Trees.{designOf}
-use Rattle·machine·proofs.Targets.{low-clocked}
-use Rattle·machine·proofs.Steps.{clock-is}
-use Rattle·machine·proofs.calls.clock.Needs as need
+use Rattle.records.specs.Trees.{design_of}
+use Rattle.machine.proofs.Targets.{low_clocked}
+use Rattle.machine.proofs.Steps.{clock_is}
+use Rattle.machine.proofs.calls.clock.Goals as goal
 
-pub returns : need.returns
+pub returns : goal.returns
 returns c =
-    clock-is (designOf (c .args .file .now) (c .args .l)) (c .args .held .now) (c .settled-before .result) (c .clocked-next .result) (c .clear .result) (low-clocked (c .args .file .now) (c .args .l)) (c .settled-before .ensures) (c .clocked-next .ensures) (c .clear .ensures)
+    clock_is (design_of c.args.file.now c.args.l) c.args.held.now c.settled-before.result c.clocked-next.result c.clear.result (low_clocked c.args.file.now c.args.l) c.settled-before.ensures c.clocked-next.ensures c.clear.ensures

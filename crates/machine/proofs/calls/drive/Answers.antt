@@ -1,16 +1,14 @@
-use mathlib.Core.Path.{_≡_}
-use borrow.Author.Needs.{needs}
-use Rattle·std.specs.declared.result.Result.the-variants.{Ok}
-use Rattle·language.specs.Machine.{driven}
-use Rattle·records.specs.Trees.{designOf}
-use Rattle·machine·proofs.Steps.{driven-low, drive-is}
-use Rattle·machine·proofs.calls.drive.Needs as need
+use Rattle.std.proofs.Common.{◌≡◌, Ok, rules}
+use Rattle.language.specs.Machine.{driven}
+use Rattle.records.specs.Trees.{design_of}
+use Rattle.machine.proofs.Steps.{driven_low, drive_is}
+use Rattle.machine.proofs.calls.drive.Goals as goal
 
-pub returns : need.returns
+pub returns : goal.returns
 returns c =
-    let ok : Ok tt ≡ driven (designOf (c .args .file .now) (c .args .l)) (c .args .v) (c .args .x) = search needs in
-    let low = driven-low (c .args .file .now) (c .args .l) (c .args .v) (c .args .x) ok in
+    let ok : Ok tt ≡ driven (design_of c.args.file.now c.args.l) c.args.v c.args.x = search rules in
+    let low = driven_low c.args.file.now c.args.l c.args.v c.args.x ok in
     record {
       answer = ok;
-      held = drive-is (designOf (c .args .file .now) (c .args .l)) (c .args .held .now) (c .set .last .self) (c .clear .result) (c .args .v) (c .args .x) low ok (c .set .ensures) (c .clear .ensures);
+      held = drive_is (design_of c.args.file.now c.args.l) c.args.held.now c.set.new.self c.clear.result c.args.v c.args.x low ok c.set.ensures c.clear.ensures;
     }

@@ -1,12 +1,11 @@
-use mathlib.Core.Path.{sym, ap, subst, _∙_}
-use Prim.Native.Nat.{_≤_}
-use Rattle·language.specs.Syntax.{width}
-use Rattle·records.specs.Trees.{exprAt}
-use Rattle·machine·proofs.Widths.{width-grown, bits-most}
-use Rattle·machine·proofs.value.bits_at.Needs as need
+use Rattle.std.proofs.Common.{◌≤◌, sym, ap, ◌∙◌, subst}
+use Rattle.language.specs.Syntax.{width}
+use Rattle.records.specs.Trees.{expr_at}
+use Rattle.machine.proofs.Widths.{width_grown, bits_most}
+use Rattle.machine.proofs.value.bits_at.Goals as goal
 
-pub returns : need.returns
+pub returns : goal.returns
 returns c = record {
-  is = c .bits-of .ensures ∙ sym (ap width (c .sized-at .ensures .tree) ∙ width-grown (c .sized-at .result) (exprAt (c .args .file .now) (c .args .l)));
-  most = subst (λ n. n ≤ 32) (sym (c .bits-of .ensures)) (bits-most (c .sized-at .result) (c .sized-at .ensures .sized));
+  is = c.bits-of.ensures ∙ sym (ap width c.sized-at.ensures.tree ∙ width_grown c.sized-at.result (expr_at c.args.file.now c.args.l));
+  most = subst (λ n. n ≤ 32) (sym c.bits-of.ensures) (bits_most c.sized-at.result c.sized-at.ensures.sized);
 }

@@ -1,9 +1,9 @@
-use Rattle·machine·proofs.Widths.{sized}
-use Rattle·machine·proofs.value.sized_at.Needs as need
+use Rattle.machine.proofs.Widths.{sized}
+use Rattle.machine.proofs.value.sized_at.Goals as goal
 
-pub returns : need.returns
+pub returns : goal.returns
 returns c = record {
-  lower = c .node-at .ensures .lower;
-  tree = c .node-at .ensures .tree;
-  sized = sized (c .args .file .now) (c .args .l) (c .args .e) (c .node-at .result) (c .node-at .ensures .tree);
+  lower = c.node-at.ensures.lower;
+  tree = c.node-at.ensures.tree;
+  sized = sized c.args.file.now c.args.l c.args.e c.node-at.result c.node-at.ensures.tree;
 }

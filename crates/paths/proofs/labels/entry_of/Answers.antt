@@ -1,17 +1,16 @@
-use mathlib.Core.Path.{sym, ap, subst, _∙_}
-use Prim.Native.Nat.{_*_, _<_, _≤_}
-use Rattle·records.specs.Bytes.{fieldOf}
-use Rattle·paths·proofs.Tables.{entry-at, entry-no-table, entry-past}
-use Rattle·paths·proofs.labels.entry_of.Needs as need
+use Rattle.std.proofs.Common.{◌*◌, ◌<◌, ◌≤◌, sym, ap, ◌∙◌, subst}
+use Rattle.records.specs.Bytes.{field_of}
+use Rattle.paths.proofs.Tables.{entry_at, entry_no_table, entry_past}
+use Rattle.paths.proofs.labels.entry_of.Goals as goal
 
-pub returns-then-t-count : need.returns-then-t-count
+pub returns-then-t-count : goal.returns-then-t-count
 returns-then-t-count c =
-    sym (entry-no-table (c .args .file .now) (c .args .l) (c .args .t) (c .args .i) (subst (λ n. n ≤ c .args .t) (c .count .ensures .is) (c .if-t-count .taken)))
+    sym (entry_no_table c.args.file.now c.args.l c.args.t c.args.i (subst (λ n. n ≤ c.args.t) c.count.ensures.is c.if-t-count.true))
 
-pub returns-then-i-ge16 : need.returns-then-i-ge16
-returns-then-i-ge16 c = sym (entry-past (c .args .file .now) (c .args .l) (c .args .t) (c .args .i) (c .if-i-ge16 .taken))
+pub returns-then-i-ge16 : goal.returns-then-i-ge16
+returns-then-i-ge16 c = sym (entry_past c.args.file.now c.args.l c.args.t c.args.i c.if-i-ge16.true)
 
-pub returns : need.returns
+pub returns : goal.returns
 returns c =
-    c .field .ensures ∙ ap (λ s. fieldOf s (4 * c .args .i)) (c .«record» .ensures)
-    ∙ sym (entry-at (c .args .file .now) (c .args .l) (c .args .t) (c .args .i) (subst (λ n. c .args .t < n) (c .count .ensures .is) (c .if-t-count .left)) (c .if-i-ge16 .left))
+    c.field.ensures ∙ ap (λ s. field_of s (4 * c.args.i)) c.«record».ensures
+    ∙ sym (entry_at c.args.file.now c.args.l c.args.t c.args.i (subst (λ n. c.args.t < n) c.count.ensures.is c.if-t-count.false) c.if-i-ge16.false)

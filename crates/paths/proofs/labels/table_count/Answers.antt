@@ -1,6 +1,6 @@
-use mathlib.Core.Path.{sym, _∙_}
-use Rattle·paths·proofs.Tables.{tables-is}
-use Rattle·paths·proofs.labels.table_count.Needs as need
+use Rattle.std.proofs.Common.{sym, ◌∙◌}
+use Rattle.paths.proofs.Tables.{tables_is}
+use Rattle.paths.proofs.labels.table_count.Goals as goal
 
-pub returns : need.returns
-returns c = c .count .ensures .is ∙ sym (tables-is (c .args .file .now) (c .args .l))
+pub returns : goal.returns
+returns c = c.count.ensures.is ∙ sym (tables_is c.args.file.now c.args.l)

@@ -1,7 +1,6 @@
-use mathlib.Core.Path.{ap, _∙_}
-use lib.ListN.{getD}
-use Rattle·std.proofs.shelf.Lists.{getD-drop}
-use Rattle·records·proofs.bytes.byte_past.Needs as need
+use Rattle.std.proofs.Common.{get_or, ap, ◌∙◌}
+use Rattle.std.proofs.lemmas.List.{get_or-drop}
+use Rattle.records.proofs.bytes.byte_past.Goals as goal
 
-pub returns : need.returns
-returns c = c .byte .ensures ∙ ap (λ l. getD l (c .args .k) 0) (c .part-from .ensures) ∙ getD-drop (c .args .at) (c .args .part .now) (c .args .k) 0
+pub returns : goal.returns
+returns c = c.byte.ensures ∙ ap (λ l. get_or l c.args.k 0) c.part_from.ensures ∙ get_or-drop c.args.at c.args.part.now c.args.k 0

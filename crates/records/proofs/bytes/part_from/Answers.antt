@@ -1,10 +1,9 @@
-use mathlib.Core.Path.{sym}
-use lib.ListN.{drop-of-length-le}
-use Rattle·records·proofs.Fields.{rest-is}
-use Rattle·records·proofs.bytes.part_from.Needs as need
+use Rattle.std.proofs.Common.{sym, drop_of_length-le}
+use Rattle.records.proofs.Fields.{rest_is}
+use Rattle.records.proofs.bytes.part_from.Goals as goal
 
-pub returns-then-at-part : need.returns-then-at-part
-returns-then-at-part c = rest-is (c .args .part .now) (c .args .at)
+pub returns-then-at-part : goal.returns-then-at-part
+returns-then-at-part c = rest_is c.args.part.now c.args.at
 
-pub returns-else-at-part : need.returns-else-at-part
-returns-else-at-part c = sym (drop-of-length-le (c .args .part .now) (c .if-at-part .left))
+pub returns-else-at-part : goal.returns-else-at-part
+returns-else-at-part c = sym (drop_of_length-le c.args.part.now c.if-at-part.false)

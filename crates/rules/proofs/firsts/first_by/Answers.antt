@@ -1,24 +1,23 @@
-use mathlib.Core.Path.{_≡_, sym, ap, _∙_}
-use native.Mathlib.Omega.{arith}
-use Rattle·records.specs.Layouts.{sectionAt}
-use Rattle·rules·specs.First.{first, refusedIn}
-use Rattle·rules·proofs.Loops.{first-none, first-more, first-found}
-use Rattle·rules·proofs.firsts.first_by.Needs as need
+use Rattle.std.proofs.Common.{◌≡◌, sym, ap, ◌∙◌, arith}
+use Rattle.records.specs.Layouts.{section_at}
+use Rattle.rules.specs.First.{first, refused_in}
+use Rattle.rules.proofs.Loops.{first_none, first_more, first_found}
+use Rattle.rules.proofs.firsts.first_by.Goals as goal
 
-pub loop-i-holds : need.loop-i-holds
-loop-i-holds c = first-none (λ i. refusedIn (c .args .file .now) (c .args .l) (c .args .rule) (sectionAt i))
+pub loop-i-init : goal.loop-i-init
+loop-i-init c = first_none (λ i. refused_in c.args.file.now c.args.l c.args.rule (section_at i))
 
-pub loop-i-again : need.loop-i-again
-loop-i-again c =
-    first-more (λ i. refusedIn (c .args .file .now) (c .args .l) (c .args .rule) (sectionAt i)) (c .loop-i .i) (c .loop-i .inv)
-    (ap (refusedIn (c .args .file .now) (c .args .l) (c .args .rule)) (sym (c .section-at .ensures)) ∙ sym (c .in-None .ensures tt))
+pub loop-i-preserved : goal.loop-i-preserved
+loop-i-preserved c =
+    first_more (λ i. refused_in c.args.file.now c.args.l c.args.rule (section_at i)) c.loop-i.i c.loop-i.invariant
+    (ap (refused_in c.args.file.now c.args.l c.args.rule) (sym c.section-at.ensures) ∙ sym c.in-None.ensures)
 
-pub returns-in-Some : need.returns-in-Some
+pub returns-in-Some : goal.returns-in-Some
 returns-in-Some c =
-    sym (first-found (λ i. refusedIn (c .args .file .now) (c .args .l) (c .args .rule) (sectionAt i)) (c .in-Some .r) (c .loop-i .i) 5 (c .loop-i .inv)
-    (ap (refusedIn (c .args .file .now) (c .args .l) (c .args .rule)) (sym (c .section-at .ensures)) ∙ sym (c .in-Some .ensures tt)) (c .loop-i-test .taken))
+    sym (first_found (λ i. refused_in c.args.file.now c.args.l c.args.rule (section_at i)) c.in-Some.r c.loop-i.i 5 c.loop-i.invariant
+    (ap (refused_in c.args.file.now c.args.l c.args.rule) (sym c.section-at.ensures) ∙ sym c.in-Some.ensures) c.loop-i-test.true)
 
-pub returns : need.returns
+pub returns : goal.returns
 returns c =
-    let done : c .loop-i .i ≡ 5 = omega arith in
-    sym (ap (first (λ i. refusedIn (c .args .file .now) (c .args .l) (c .args .rule) (sectionAt i))) (sym done) ∙ c .loop-i .inv)
+    let done : c.loop-i.i ≡ 5 = omega arith in
+    sym (ap (first (λ i. refused_in c.args.file.now c.args.l c.args.rule (section_at i))) (sym done) ∙ c.loop-i.invariant)

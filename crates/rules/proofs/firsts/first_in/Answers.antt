@@ -1,26 +1,23 @@
-use mathlib.Core.Path.{_≡_, sym, ap, _∙_}
-use Prim.Native.Nat.{_<_}
-use native.Mathlib.Omega.{arith}
-use Rattle·std.specs.declared.option.Option.the-variants.{Some}
-use Rattle·records.specs.Layouts.{countIn}
-use Rattle·rules·specs.First.{first, refusalOf, refusedAt}
-use Rattle·rules·proofs.Loops.{first-none, first-more, first-found, passes, fails}
-use Rattle·rules·proofs.firsts.first_in.Needs as need
+use Rattle.std.proofs.Common.{◌≡◌, ◌<◌, Some, sym, ap, ◌∙◌, arith}
+use Rattle.records.specs.Layouts.{count_in}
+use Rattle.rules.specs.First.{first, refusal_of, refused_at}
+use Rattle.rules.proofs.Loops.{first_none, first_more, first_found, passes, fails}
+use Rattle.rules.proofs.firsts.first_in.Goals as goal
 
-pub loop-n-holds : need.loop-n-holds
-loop-n-holds c = first-none (refusedAt (c .args .file .now) (c .args .l) (c .args .rule) (c .args .section))
+pub loop-n-init : goal.loop-n-init
+loop-n-init c = first_none (refused_at c.args.file.now c.args.l c.args.rule c.args.section)
 
-pub loop-n-again : need.loop-n-again
-loop-n-again c = first-more (refusedAt (c .args .file .now) (c .args .l) (c .args .rule) (c .args .section)) (c .loop-n .n) (c .loop-n .inv) (passes _ (sym (c .if-breaks .ensures tt)))
+pub loop-n-preserved : goal.loop-n-preserved
+loop-n-preserved c = first_more (refused_at c.args.file.now c.args.l c.args.rule c.args.section) c.loop-n.n c.loop-n.invariant (passes _ (sym c.if-breaks.ensures))
 
-pub returns-then-breaks : need.returns-then-breaks
+pub returns-then-breaks : goal.returns-then-breaks
 returns-then-breaks c =
-    let low : c .loop-n .n < countIn (c .args .l) (c .args .section) = omega (arith, c .count-n-end .ensures .is, c .loop-n-test .taken) in
-    let r = refusalOf (c .args .rule) (c .args .section) (c .loop-n .n) in
-    ap Some (c .refusal-of .ensures)
-    ∙ sym (first-found (refusedAt (c .args .file .now) (c .args .l) (c .args .rule) (c .args .section)) r (c .loop-n .n) (countIn (c .args .l) (c .args .section)) (c .loop-n .inv) (fails r (sym (c .if-breaks .ensures tt))) low)
+    let low : c.loop-n.n < count_in c.args.l c.args.section = omega (arith, c.count-n-end.ensures.is, c.loop-n-test.true) in
+    let r = refusal_of c.args.rule c.args.section c.loop-n.n in
+    ap Some c.refusal-of.ensures
+    ∙ sym (first_found (refused_at c.args.file.now c.args.l c.args.rule c.args.section) r c.loop-n.n (count_in c.args.l c.args.section) c.loop-n.invariant (fails r (sym c.if-breaks.ensures)) low)
 
-pub returns : need.returns
+pub returns : goal.returns
 returns c =
-    let done : c .loop-n .n ≡ countIn (c .args .l) (c .args .section) = omega (arith, c .count-n-end .ensures .is, c .loop-n-test .left, c .loop-n .kept .n-end) in
-    sym (ap (first (refusedAt (c .args .file .now) (c .args .l) (c .args .rule) (c .args .section))) (sym done) ∙ c .loop-n .inv)
+    let done : c.loop-n.n ≡ count_in c.args.l c.args.section = omega (arith, c.count-n-end.ensures.is, c.loop-n-test.false, c.loop-n.auto.n-end) in
+    sym (ap (first (refused_at c.args.file.now c.args.l c.args.rule c.args.section)) (sym done) ∙ c.loop-n.invariant)

@@ -1,7 +1,6 @@
-use mathlib.Core.Path.{sym}
-use mathlib.Core.Bool.{false}
-use Rattle·std.proofs.shelf.Lists.{getD-past}
-use Rattle·survey·proofs.marks.has.Needs as need
+use Rattle.std.proofs.Common.{false, sym}
+use Rattle.std.proofs.lemmas.List.{get_or_past}
+use Rattle.survey.proofs.marks.has.Goals as goal
 
-pub returns-else-i-marks : need.returns-else-i-marks
-returns-else-i-marks c = sym (getD-past _ _ false (c .if-i-marks .left))
+pub returns-else-i-marks : goal.returns-else-i-marks
+returns-else-i-marks c = sym (get_or_past _ _ false c.if-i-marks.false)

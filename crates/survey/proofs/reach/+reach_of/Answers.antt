@@ -1,23 +1,21 @@
-use mathlib.Core.Path.{sym, subst}
-use mathlib.Core.Bool.{false}
-use lib.ListN.{replicate}
-use Rattle·survey·specs.Sets.{Reaches}
-use Rattle·survey·proofs.Marking.{lists-none}
-use Rattle·survey·proofs.reach.+reach_of.Needs as need
+use Rattle.std.proofs.Common.{false, replicate, sym, subst}
+use Rattle.survey.specs.Sets.{Reaches}
+use Rattle.survey.proofs.Marking.{lists_none}
+use Rattle.survey.proofs.reach.+reach_of.Goals as goal
 
-pub returns-in-Idle : need.returns-in-Idle
+pub returns-in-Idle : goal.returns-in-Idle
 returns-in-Idle t c =
-    subst (λ x. Reaches x (record { some = replicate 128 false; always = replicate 128 false; twice = replicate 128 false })) (sym (c .in-Idle .ensures tt .tree))
-    (record { some = lists-none; always = lists-none; twice = lists-none })
+    subst (λ x. Reaches x (record { some = replicate 128 false; always = replicate 128 false; twice = replicate 128 false })) (sym c.in-Idle.ensures.tree)
+    (record { some = lists_none; always = lists_none; twice = lists_none })
 
-pub returns-in-Both : need.returns-in-Both
-returns-in-Both t c = subst (λ x. Reaches x (c .in-turn .result)) (sym (c .in-Both .ensures tt .tree)) (c .in-turn .ensures _ _ (c .reach-of-x .ensures) (c .reach-of-y .ensures))
+pub returns-in-Both : goal.returns-in-Both
+returns-in-Both t c = subst (λ x. Reaches x c.in-turn.result) (sym c.in-Both.ensures.tree) (c.in-turn.ensures _ _ c.reach-of-x.ensures c.reach-of-y.ensures)
 
-pub returns-in-Choose : need.returns-in-Choose
+pub returns-in-Choose : goal.returns-in-Choose
 returns-in-Choose t c =
-    subst (λ x. Reaches x (c .either-of .result)) (sym (c .in-Choose .ensures tt .tree)) (c .either-of .ensures _ _ _ (c .reach-of-x-in-Choose .ensures) (c .reach-of-y-in-Choose .ensures))
+    subst (λ x. Reaches x c.either_of.result) (sym c.in-Choose.ensures.tree) (c.either_of.ensures _ _ _ c.reach-of-x-in-Choose.ensures c.reach-of-y-in-Choose.ensures)
 
-pub returns-in-Assign : need.returns-in-Assign
+pub returns-in-Assign : goal.returns-in-Assign
 returns-in-Assign t c =
-    subst (λ x. Reaches x (record { some = c .only .result; always = c .only-in-Assign .result; twice = replicate 128 false })) (sym (c .in-Assign .ensures tt .tree))
-    (record { some = c .only .ensures; always = c .only-in-Assign .ensures; twice = lists-none })
+    subst (λ x. Reaches x (record { some = c.only.result; always = c.only-in-Assign.result; twice = replicate 128 false })) (sym c.in-Assign.ensures.tree)
+    (record { some = c.only.ensures; always = c.only-in-Assign.ensures; twice = lists_none })

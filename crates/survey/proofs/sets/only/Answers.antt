@@ -1,8 +1,8 @@
-use Rattle·survey·proofs.Marking.{only-there, only-past}
-use Rattle·survey·proofs.sets.only.Needs as need
+use Rattle.survey.proofs.Marking.{only_there, only_past}
+use Rattle.survey.proofs.sets.only.Goals as goal
 
-pub returns-then-i-lt-MOST-VARIABLES : need.returns-then-i-lt-MOST-VARIABLES
-returns-then-i-lt-MOST-VARIABLES c = only-there (c .args .u) (c .if-i-lt-MOST-VARIABLES .taken)
+pub returns-then-i-lt-MOST-VARIABLES : goal.returns-then-i-lt-MOST-VARIABLES
+returns-then-i-lt-MOST-VARIABLES c = only_there c.args.u c.if-i-lt-MOST-VARIABLES.true
 
-pub returns-else-i-lt-MOST-VARIABLES : need.returns-else-i-lt-MOST-VARIABLES
-returns-else-i-lt-MOST-VARIABLES c = only-past (c .args .u) (c .if-i-lt-MOST-VARIABLES .left)
+pub returns-else-i-lt-MOST-VARIABLES : goal.returns-else-i-lt-MOST-VARIABLES
+returns-else-i-lt-MOST-VARIABLES c = only_past c.args.u c.if-i-lt-MOST-VARIABLES.false

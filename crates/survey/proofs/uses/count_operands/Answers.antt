@@ -1,20 +1,19 @@
-use mathlib.Core.Path.{_≡_, ap, subst}
-use native.Mathlib.Omega.{arith}
-use Rattle·refusal.specs.declared.Section.the-variants.{Expressions}
-use Rattle·records.specs.Layouts.{countIn}
-use Rattle·survey·specs.Sums.{total}
-use Rattle·survey·specs.Uses.{Adds, operands-of, operandUse}
-use Rattle·survey·proofs.Counting.{adds-none, adds-same, adds-more}
-use Rattle·survey·proofs.uses.count_operands.Needs as need
+use Rattle.std.proofs.Common.{◌≡◌, ap, subst, arith}
+use Rattle.refusal.specs.declared.Section.TheVariants.{Expressions}
+use Rattle.records.specs.Layouts.{count_in}
+use Rattle.survey.specs.Sums.{total}
+use Rattle.survey.specs.Uses.{Adds, operands_of, operand_use}
+use Rattle.survey.proofs.Counting.{adds_none, adds_same, adds_more}
+use Rattle.survey.proofs.uses.count_operands.Goals as goal
 
-pub loop-k-holds : need.loop-k-holds
-loop-k-holds c = adds-none _ (operandUse (c .args .file .now) (c .args .l))
+pub loop-k-init : goal.loop-k-init
+loop-k-init c = adds_none _ (operand_use c.args.file.now c.args.l)
 
-pub loop-k-again : need.loop-k-again
-loop-k-again c =
-    adds-more _ _ _ (operandUse (c .args .file .now) (c .args .l)) (c .loop-k .k) (c .loop-k .inv) (adds-same _ _ _ _ (λ n. ap (λ x. operands-of x n) (c .expression-at .ensures)) (c .add-operands .ensures))
+pub loop-k-preserved : goal.loop-k-preserved
+loop-k-preserved c =
+    adds_more _ _ _ (operand_use c.args.file.now c.args.l) c.loop-k.k c.loop-k.invariant (adds_same _ _ _ _ (λ n. ap (λ x. operands_of x n) c.expression-at.ensures) c.add-operands.ensures)
 
-pub returns : need.returns
+pub returns : goal.returns
 returns c =
-    let done : c .loop-k .k ≡ countIn (c .args .l) Expressions = omega (arith, c .count-k-end .ensures .is) in
-    subst (λ m. Adds (c .args .uses .now) (c .loop-k .uses) (λ n. total (operandUse (c .args .file .now) (c .args .l) n) m)) done (c .loop-k .inv)
+    let done : c.loop-k.k ≡ count_in c.args.l Expressions = omega (arith, c.count-k-end.ensures.is) in
+    subst (λ m. Adds c.args.uses.now c.loop-k.uses (λ n. total (operand_use c.args.file.now c.args.l n) m)) done c.loop-k.invariant

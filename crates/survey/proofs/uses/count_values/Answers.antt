@@ -1,20 +1,19 @@
-use mathlib.Core.Path.{_≡_, ap, subst}
-use native.Mathlib.Omega.{arith}
-use Rattle·refusal.specs.declared.Section.the-variants.{Commands}
-use Rattle·records.specs.Layouts.{countIn}
-use Rattle·survey·specs.Sums.{total}
-use Rattle·survey·specs.Uses.{Adds, values-of, valueUse}
-use Rattle·survey·proofs.Counting.{adds-none, adds-same, adds-more}
-use Rattle·survey·proofs.uses.count_values.Needs as need
+use Rattle.std.proofs.Common.{◌≡◌, ap, subst, arith}
+use Rattle.refusal.specs.declared.Section.TheVariants.{Commands}
+use Rattle.records.specs.Layouts.{count_in}
+use Rattle.survey.specs.Sums.{total}
+use Rattle.survey.specs.Uses.{Adds, values_of, value_use}
+use Rattle.survey.proofs.Counting.{adds_none, adds_same, adds_more}
+use Rattle.survey.proofs.uses.count_values.Goals as goal
 
-pub loop-k-holds : need.loop-k-holds
-loop-k-holds c = adds-none _ (valueUse (c .args .file .now) (c .args .l))
+pub loop-k-init : goal.loop-k-init
+loop-k-init c = adds_none _ (value_use c.args.file.now c.args.l)
 
-pub loop-k-again : need.loop-k-again
-loop-k-again c =
-    adds-more _ _ _ (valueUse (c .args .file .now) (c .args .l)) (c .loop-k .k) (c .loop-k .inv) (adds-same _ _ _ _ (λ n. ap (λ x. values-of x n) (c .command-at .ensures)) (c .add-values .ensures))
+pub loop-k-preserved : goal.loop-k-preserved
+loop-k-preserved c =
+    adds_more _ _ _ (value_use c.args.file.now c.args.l) c.loop-k.k c.loop-k.invariant (adds_same _ _ _ _ (λ n. ap (λ x. values_of x n) c.command-at.ensures) c.add-values.ensures)
 
-pub returns : need.returns
+pub returns : goal.returns
 returns c =
-    let done : c .loop-k .k ≡ countIn (c .args .l) Commands = omega (arith, c .count-k-end .ensures .is) in
-    subst (λ m. Adds (c .args .uses .now) (c .loop-k .uses) (λ n. total (valueUse (c .args .file .now) (c .args .l) n) m)) done (c .loop-k .inv)
+    let done : c.loop-k.k ≡ count_in c.args.l Commands = omega (arith, c.count-k-end.ensures.is) in
+    subst (λ m. Adds c.args.uses.now c.loop-k.uses (λ n. total (value_use c.args.file.now c.args.l n) m)) done c.loop-k.invariant

@@ -1,9 +1,9 @@
-use native.Mathlib.Omega.{arith}
-use Rattle·survey·proofs.Counting.{tallies-same, tallies-zero}
-use Rattle·survey·proofs.uses.uses_of.Needs as need
+use Rattle.std.proofs.Common.{arith}
+use Rattle.survey.proofs.Counting.{tallies_same, tallies_zero}
+use Rattle.survey.proofs.uses.uses_of.Goals as goal
 
-pub returns : need.returns
+pub returns : goal.returns
 returns c = record {
-  commands = tallies-same _ _ _ (λ k. omega arith) (c .count-parts .ensures _ (c .count-tops .ensures (λ k. 0) (tallies-zero 512)));
-  expressions = tallies-same _ _ _ (λ k. omega arith) (c .count-operands .ensures _ (c .count-values .ensures (λ k. 0) (tallies-zero 1024)));
+  commands = tallies_same _ _ _ (λ k. omega arith) (c.count-parts.ensures _ (c.count-tops.ensures (λ k. 0) (tallies_zero 512)));
+  expressions = tallies_same _ _ _ (λ k. omega arith) (c.count-operands.ensures _ (c.count-values.ensures (λ k. 0) (tallies_zero 1024)));
 }

@@ -1,14 +1,14 @@
-use native.Mathlib.Omega.{arith}
-use Rattle·clearance·proofs.Squares.{square, cell-below}
-use Rattle·clearance·proofs.Tabled.{table-meet}
-use Rattle·clearance·proofs.table.Table.greatest.Needs as need
+use Rattle.std.proofs.Common.{arith}
+use Rattle.clearance.proofs.Squares.{square, cell_below}
+use Rattle.clearance.proofs.Tabled.{table_meet}
+use Rattle.clearance.proofs.table.Table.greatest.Goals as goal
 
-pub index-self-a : need.index-self-a
-index-self-a c =
-    let s = c .args .self .now in
-    omega (arith, square (s .n) (s .most), cell-below (s .n) (c .args .a) (c .args .b) (c .pre .0) (c .pre .1))
+pub bounds-self-a : goal.bounds-self-a
+bounds-self-a c =
+    let s = c.args.self.now in
+    omega (arith, square s.n s.most, cell_below s.n c.args.a c.args.b c.requires.0 c.requires.1)
 
-pub returns : need.returns
+pub returns : goal.returns
 returns c =
-    let s = c .args .self .now in
-    table-meet (s .n) _ (s .joins) (s .meets) (s .some) (s .most) (s .sound) (c .args .a) (c .args .b) (c .pre .0) (c .pre .1)
+    let s = c.args.self.now in
+    table_meet s.n _ s.joins s.meets s.some s.most s.sound c.args.a c.args.b c.requires.0 c.requires.1

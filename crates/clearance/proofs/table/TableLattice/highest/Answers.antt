@@ -1,9 +1,9 @@
-use Rattle·clearance·proofs.Tabled.{table-order, next-highest}
-use Rattle·clearance·proofs.table.TableLattice.highest.Needs as need
+use Rattle.clearance.proofs.Tabled.{table_order, next_highest}
+use Rattle.clearance.proofs.table.TableLattice.highest.Goals as goal
 
-pub loop-t-again : need.loop-t-again
-loop-t-again c =
-    let s = c .args .self .now in
-    let order = table-order (s .n) _ (s .joins) (s .meets) (s .some) (s .most) (s .sound) in
-    let r = c .least-high .ensures in
-    (order .levels _ _ (r .left) .1, next-highest order (c .loop-t .high) (c .loop-t .t) (c .least-high .result) r (c .loop-t .inv .1))
+pub loop-t-preserved : goal.loop-t-preserved
+loop-t-preserved c =
+    let s = c.args.self.now in
+    let order = table_order s.n _ s.joins s.meets s.some s.most s.sound in
+    let r = c.least-high.ensures in
+    ((order.levels _ _ r.left).1, next_highest order c.loop-t.high c.loop-t.t c.least-high.result r c.loop-t.invariant.1)

@@ -1,6 +1,6 @@
-use borrow.Author.Needs.{needs}
-use Rattle·clearance·proofs.Squares.{square}
-use Rattle·clearance·proofs.table.TableLattice.is_below.Needs as need
+use Rattle.std.proofs.Common.{rules}
+use Rattle.clearance.proofs.Squares.{square}
+use Rattle.clearance.proofs.table.TableLattice.is_below.Goals as goal
 
-pub part-grid-end : need.part-grid-end
-part-grid-end c = let h = square (c .args .self .now .n) (c .args .self .now .most) in search needs
+pub slice-bounds-grid-end : goal.slice-bounds-grid-end
+slice-bounds-grid-end c = let h = square c.args.self.now.n c.args.self.now.most in search rules

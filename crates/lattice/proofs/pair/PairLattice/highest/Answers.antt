@@ -1,8 +1,8 @@
-use borrow.Author.Needs.{needs}
-use Rattle·lattice·proofs.Pairs.{pair-highest}
-use Rattle·lattice·proofs.pair.PairLattice.highest.Needs as need
+use Rattle.std.proofs.Common.{rules}
+use Rattle.lattice.proofs.Pairs.{pair_highest}
+use Rattle.lattice.proofs.pair.PairLattice.highest.Goals as goal
 
-pub returns-else-is-over : need.returns-else-is-over
+pub returns-else-is-over : goal.returns-else-is-over
 returns-else-is-over g c =
-    let s = c .args .self .now in
-    rw (c .level .ensures) (pair-highest (g .A·Lattice·met .lawful (s .first)) (g .B·Lattice·met .lawful (s .second)) _ _ (search needs) (c .highest .ensures) (c .highest-else-is-over .ensures))
+    let s = c.args.self.now in
+    rw c.level.ensures (pair_highest (g.met.A.Lattice.lawful s.first) (g.met.B.Lattice.lawful s.second) _ _ (search rules) c.highest.ensures c.highest-else-is-over.ensures)

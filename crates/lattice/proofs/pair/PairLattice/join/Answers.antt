@@ -1,24 +1,24 @@
-use Rattle·lattice·proofs.Pairs.{pair-alone, pair-joins, join-halves}
-use Rattle·lattice·proofs.pair.PairLattice.join.Needs as need
+use Rattle.lattice.proofs.Pairs.{pair_alone, pair_joins, join_halves}
+use Rattle.lattice.proofs.pair.PairLattice.join.Goals as goal
 
-pub returns-in-rest : need.returns-in-rest
-returns-in-rest g c =
-    let s = c .args .self .now in
-    pair-alone (g .A·Lattice·met .lawful (s .first)) (g .B·Lattice·met .lawful (s .second)) _ _ _ (c .in-rest .ensures tt) (c .lowest .ensures) .0
+pub returns-in-default : goal.returns-in-default
+returns-in-default g c =
+    let s = c.args.self.now in
+    (pair_alone (g.met.A.Lattice.lawful s.first) (g.met.B.Lattice.lawful s.second) _ _ _ c.in-default.ensures c.lowest.ensures).0
 
-pub level-requires : need.level-requires
-level-requires g c κs =
-    let s = c .args .self .now in
-    let found = c .in-Some .ensures tt in
+pub level-requires : goal.level-requires
+level-requires g c =
+    let s = c.args.self.now in
+    let found = c.in-Some.ensures in
     let halves =
-    join-halves (g .A·Lattice·met .lawful (s .first)) (g .B·Lattice·met .lawful (s .second)) _ _ _ _ (found .0)
-    (rw (found .1) at (c .join .ensures)) (rw (found .1) at (c .join-2 .ensures)) in
-    (found .0 .fits, halves .0, halves .1)
+    join_halves (g.met.A.Lattice.lawful s.first) (g.met.B.Lattice.lawful s.second) _ _ _ _ found.0
+    (rw found.1 at c.join.ensures) (rw found.1 at c.join-2.ensures) in
+    (found.0.fits, halves.0, halves.1)
 
-pub returns : need.returns
+pub returns : goal.returns
 returns g c =
-    let s = c .args .self .now in
-    let found = c .in-Some .ensures tt in
-    rw (c .level .ensures)
-    (pair-joins (g .A·Lattice·met .lawful (s .first)) (g .B·Lattice·met .lawful (s .second)) _ _ _ _ (found .0)
-    (rw (found .1) at (c .join .ensures)) (rw (found .1) at (c .join-2 .ensures)))
+    let s = c.args.self.now in
+    let found = c.in-Some.ensures in
+    rw c.level.ensures
+    (pair_joins (g.met.A.Lattice.lawful s.first) (g.met.B.Lattice.lawful s.second) _ _ _ _ found.0
+    (rw found.1 at c.join.ensures) (rw found.1 at c.join-2.ensures))

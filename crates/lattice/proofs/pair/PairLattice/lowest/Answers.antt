@@ -1,8 +1,8 @@
-use borrow.Author.Needs.{needs}
-use Rattle·lattice·proofs.Pairs.{pair-lowest}
-use Rattle·lattice·proofs.pair.PairLattice.lowest.Needs as need
+use Rattle.std.proofs.Common.{rules}
+use Rattle.lattice.proofs.Pairs.{pair_lowest}
+use Rattle.lattice.proofs.pair.PairLattice.lowest.Goals as goal
 
-pub returns-else-is-over : need.returns-else-is-over
+pub returns-else-is-over : goal.returns-else-is-over
 returns-else-is-over g c =
-    let s = c .args .self .now in
-    rw (c .level .ensures) (pair-lowest (g .A·Lattice·met .lawful (s .first)) (g .B·Lattice·met .lawful (s .second)) _ _ (search needs) (c .lowest .ensures) (c .lowest-else-is-over .ensures))
+    let s = c.args.self.now in
+    rw c.level.ensures (pair_lowest (g.met.A.Lattice.lawful s.first) (g.met.B.Lattice.lawful s.second) _ _ (search rules) c.lowest.ensures c.lowest-else-is-over.ensures)

@@ -1,24 +1,24 @@
-use Rattle·lattice·proofs.Pairs.{pair-alone, pair-meets, meet-halves}
-use Rattle·lattice·proofs.pair.PairLattice.meet.Needs as need
+use Rattle.lattice.proofs.Pairs.{pair_alone, pair_meets, meet_halves}
+use Rattle.lattice.proofs.pair.PairLattice.meet.Goals as goal
 
-pub returns-in-rest : need.returns-in-rest
-returns-in-rest g c =
-    let s = c .args .self .now in
-    pair-alone (g .A·Lattice·met .lawful (s .first)) (g .B·Lattice·met .lawful (s .second)) _ _ _ (c .in-rest .ensures tt) (c .lowest .ensures) .1
+pub returns-in-default : goal.returns-in-default
+returns-in-default g c =
+    let s = c.args.self.now in
+    (pair_alone (g.met.A.Lattice.lawful s.first) (g.met.B.Lattice.lawful s.second) _ _ _ c.in-default.ensures c.lowest.ensures).1
 
-pub level-requires : need.level-requires
-level-requires g c κs =
-    let s = c .args .self .now in
-    let found = c .in-Some .ensures tt in
+pub level-requires : goal.level-requires
+level-requires g c =
+    let s = c.args.self.now in
+    let found = c.in-Some.ensures in
     let halves =
-    meet-halves (g .A·Lattice·met .lawful (s .first)) (g .B·Lattice·met .lawful (s .second)) _ _ _ _ (found .0)
-    (rw (found .1) at (c .meet .ensures)) (rw (found .1) at (c .meet-2 .ensures)) in
-    (found .0 .fits, halves .0, halves .1)
+    meet_halves (g.met.A.Lattice.lawful s.first) (g.met.B.Lattice.lawful s.second) _ _ _ _ found.0
+    (rw found.1 at c.meet.ensures) (rw found.1 at c.meet-2.ensures) in
+    (found.0.fits, halves.0, halves.1)
 
-pub returns : need.returns
+pub returns : goal.returns
 returns g c =
-    let s = c .args .self .now in
-    let found = c .in-Some .ensures tt in
-    rw (c .level .ensures)
-    (pair-meets (g .A·Lattice·met .lawful (s .first)) (g .B·Lattice·met .lawful (s .second)) _ _ _ _ (found .0)
-    (rw (found .1) at (c .meet .ensures)) (rw (found .1) at (c .meet-2 .ensures)))
+    let s = c.args.self.now in
+    let found = c.in-Some.ensures in
+    rw c.level.ensures
+    (pair_meets (g.met.A.Lattice.lawful s.first) (g.met.B.Lattice.lawful s.second) _ _ _ _ found.0
+    (rw found.1 at c.meet.ensures) (rw found.1 at c.meet-2.ensures))

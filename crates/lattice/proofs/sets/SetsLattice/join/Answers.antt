@@ -1,6 +1,6 @@
-use borrow.Author.Needs.{needs}
-use Rattle·lattice·proofs.Owners.{sets-joins}
-use Rattle·lattice·proofs.sets.SetsLattice.join.Needs as need
+use Rattle.std.proofs.Common.{rules}
+use Rattle.lattice.proofs.Owners.{sets_joins}
+use Rattle.lattice.proofs.sets.SetsLattice.join.Goals as goal
 
-pub returns-then-b-count : need.returns-then-b-count
-returns-then-b-count c = sets-joins (c .args .self .now .owners) _ _ (search needs) (search needs)
+pub returns-then-b-count : goal.returns-then-b-count
+returns-then-b-count c = sets_joins c.args.self.now.owners _ _ (search rules) (search rules)

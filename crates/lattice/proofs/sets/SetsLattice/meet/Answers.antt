@@ -1,6 +1,6 @@
-use borrow.Author.Needs.{needs}
-use Rattle·lattice·proofs.Owners.{sets-meets}
-use Rattle·lattice·proofs.sets.SetsLattice.meet.Needs as need
+use Rattle.std.proofs.Common.{rules}
+use Rattle.lattice.proofs.Owners.{sets_meets}
+use Rattle.lattice.proofs.sets.SetsLattice.meet.Goals as goal
 
-pub returns-then-b-count : need.returns-then-b-count
-returns-then-b-count c = sets-meets (c .args .self .now .owners) _ _ (search needs) (search needs)
+pub returns-then-b-count : goal.returns-then-b-count
+returns-then-b-count c = sets_meets c.args.self.now.owners _ _ (search rules) (search rules)

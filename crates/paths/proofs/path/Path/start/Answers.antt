@@ -1,11 +1,9 @@
-use mathlib.Core.Bool.{true, false}
-use native.Mathlib.Omega.{arith}
-use Prim.Native.Nat.{_+_, _*_}
-use Rattle·std.proofs.shelf.Lists.{getD-replicate}
-use Rattle·paths·proofs.path.Path.start.Needs as need
+use Rattle.std.proofs.Common.{◌+◌, ◌*◌, true, false, arith}
+use Rattle.std.proofs.lemmas.List.{get_or-replicate}
+use Rattle.paths.proofs.path.Path.start.Goals as goal
 
-pub returns : need.returns
+pub returns : goal.returns
 returns c = record {
-  values = λ v x h k. getD-replicate 2048 (16 * v + x) true false (omega arith);
-  variables = λ v h. getD-replicate 128 v false false h;
+  values = λ v x h k. get_or-replicate 2048 (16 * v + x) true false (omega arith);
+  variables = λ v h. get_or-replicate 128 v false false h;
 }

@@ -1,7 +1,0 @@
-use Prim.Native.Nat.{ℕ, _<_}
-use Rattle·language.specs.Finite.{Test-12}
-use Rattle·records.specs.Trees.{designOf}
-use Rattle·judgement·proofs.levels.check_selectors.Given as given
-
-abbrev pub Inv-loop-v : given.InvT-loop-v
-Inv-loop-v g l = (k : ℕ) → k < l .v → Test-12 (g .L·Lattice .meaning (l .lattice)) (designOf (l .file) (l .l)) k

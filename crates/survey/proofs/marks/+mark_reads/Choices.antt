@@ -1,4 +1,0 @@
-use Rattle·survey·proofs.marks.+mark_reads.Given as given
-
-abbrev pub μ-mark-reads : given.MeasureT-mark-reads
-μ-mark-reads l = l .e
