@@ -1,4 +1,6 @@
 //! Lattices given by a table, and tables given as text.
+#![tactic(auto)]
+
 mod relation;
 mod table;
 mod text;

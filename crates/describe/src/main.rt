@@ -1,4 +1,6 @@
 //! Reads a design on standard input and prints it for an engineer, or the refusal and what it means.
+#![tactic(auto)]
+
 use design::read_design;
 use listing::{CommandText, Reason, Source, TableText, VariableText};
 use records::{BlockKind, block_at};

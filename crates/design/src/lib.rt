@@ -1,4 +1,6 @@
 //! Designs whose form was checked.
+#![tactic(auto)]
+
 ghost use Rattle.std.specs.Prelude.{◌≡◌, IfOk, Ok, Err, MatchResult};
 ghost use Rattle.records.specs.Layouts.{layout_of};
 ghost use Rattle.design.specs.First.{rule_at, form_refusal, checked, read_of};

@@ -31,9 +31,9 @@ fn check_assignment<L: Lattice>(
     u: u32,
     e: u32,
 ) -> Option<Leak>
-    ensures { (ways : List Way) → Tracks ways path.now → Levelled (meaning lattice.now) (design_of file.now l) → MatchOption result
-        (Test13 (meaning lattice.now) (design_of file.now l) ways u (expr_at file.now l e))
-        (λ b. Breach (meaning lattice.now) (design_of file.now l) b ways u (expr_at file.now l e) n) }
+    ensures { (ways : List Way) → Tracks ways path.now → Levelled (L.meaning lattice.now) (design_of file.now l) → MatchOption result
+        (Test13 (L.meaning lattice.now) (design_of file.now l) ways u (expr_at file.now l e))
+        (λ b. Breach (L.meaning lattice.now) (design_of file.now l) b ways u (expr_at file.now l e) n) }
 {
     let flow = gathered(file, l, e, &path.variables);
     let shape = shape_of(file, l, e);
@@ -59,8 +59,8 @@ pub fn find_leak<L: Lattice>(
     path: &Path,
     n: u32,
 ) -> Option<Leak>
-    ensures { (ways : List Way) → Tracks ways path.now → Levelled (meaning lattice.now) (design_of file.now l)
-        → Walked (meaning lattice.now) (design_of file.now l) result ways (cmd_at file.now l n) }
+    ensures { (ways : List Way) → Tracks ways path.now → Levelled (L.meaning lattice.now) (design_of file.now l)
+        → Walked (L.meaning lattice.now) (design_of file.now l) result ways (cmd_at file.now l n) }
 {
     match action_at(file, l, n) {
         Action::Idle => None,

@@ -28,8 +28,8 @@ fn clash_at<L: Lattice>(lattice: &L, p: &Trials, x: u32, q: &Trials) -> Option<u
     requires { x < 16 }
     ensures { (d : Design) (sets : Sets) → Tabled d sets p.now → Tabled d sets q.now → Tries d sets (place_of p.now.origin) x → MatchOption result
         ((y : ℕ) → Tries d sets (place_of q.now.origin) y → One (place_of p.now.origin) (place_of q.now.origin) x y
-        → Below (meaning lattice.now) (level_at d (place_of p.now.origin) x) (level_at d (place_of q.now.origin) y))
-        (λ y. Clash (meaning lattice.now) d sets (place_of p.now.origin) (place_of q.now.origin) x y) }
+        → Below (L.meaning lattice.now) (level_at d (place_of p.now.origin) x) (level_at d (place_of q.now.origin) y))
+        (λ y. Clash (L.meaning lattice.now) d sets (place_of p.now.origin) (place_of q.now.origin) x y) }
 {
     let from = p.levels[x as usize];
     for y in 0..16 {
@@ -47,8 +47,8 @@ fn clash_at<L: Lattice>(lattice: &L, p: &Trials, x: u32, q: &Trials) -> Option<u
 // Values to try at which the level at `p` is not at or below the level at `q`.
 fn clash<L: Lattice>(lattice: &L, p: &Trials, q: &Trials) -> Option<(u32, u32)>
     ensures { (d : Design) (sets : Sets) → Tabled d sets p.now → Tabled d sets q.now → MatchOption result
-        (Under (meaning lattice.now) d sets (place_of p.now.origin) (place_of q.now.origin))
-        (λ c. Clash (meaning lattice.now) d sets (place_of p.now.origin) (place_of q.now.origin) c.0 c.1) }
+        (Under (L.meaning lattice.now) d sets (place_of p.now.origin) (place_of q.now.origin))
+        (λ c. Clash (L.meaning lattice.now) d sets (place_of p.now.origin) (place_of q.now.origin) c.0 c.1) }
 {
     for x in 0..16 {
         if p.tried[x as usize] {
@@ -70,8 +70,8 @@ pub fn find_offence<L: Lattice>(
     q: Origin,
 ) -> Option<Offence>
     ensures { MatchOption result
-        (AllUnder (meaning lattice.now) (design_of file.now l) (sets_of sets.now) (flags_of flow.now) (place_of q))
-        (λ o. Offends (meaning lattice.now) (design_of file.now l) (sets_of sets.now) (flags_of flow.now) (place_of q) o) }
+        (AllUnder (L.meaning lattice.now) (design_of file.now l) (sets_of sets.now) (flags_of flow.now) (place_of q))
+        (λ o. Offends (L.meaning lattice.now) (design_of file.now l) (sets_of sets.now) (flags_of flow.now) (place_of q) o) }
 {
     if !is_possible(file, l, sets) {
         return None;

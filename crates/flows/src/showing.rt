@@ -83,7 +83,7 @@ fn flow_level<L: Lattice>(
     values: &Values,
     flow: &VariableSet,
 ) -> u32
-    ensures { Levelled (meaning lattice.now) (design_of file.now l) → JoinBelow (meaning lattice.now) (design_of file.now l) (values_of values.now) (flags_of flow.now) (count (design_of file.now l)) result }
+    ensures { Levelled (L.meaning lattice.now) (design_of file.now l) → JoinBelow (L.meaning lattice.now) (design_of file.now l) (values_of values.now) (flags_of flow.now) (count (design_of file.now l)) result }
 {
     let mut join = lattice.lowest();
     let count = variable_count(file, l);
@@ -106,9 +106,9 @@ pub(crate) fn shown_levels<L: Lattice>(
     shape: Shape,
     o: Offence,
 ) -> (u32, u32)
-    ensures { Levelled (meaning lattice.now) (design_of file.now l)
-        → Offends (meaning lattice.now) (design_of file.now l) (sets_of sets.now) (flags_of flow.now) (target_place (design_of file.now l) u (shape_of shape)) o
-        → Exposes (meaning lattice.now) (design_of file.now l) (sets_of sets.now) (flags_of flow.now) u (shape_of shape) result.0 result.1 }
+    ensures { Levelled (L.meaning lattice.now) (design_of file.now l)
+        → Offends (L.meaning lattice.now) (design_of file.now l) (sets_of sets.now) (flags_of flow.now) (target_place (design_of file.now l) u (shape_of shape)) o
+        → Exposes (L.meaning lattice.now) (design_of file.now l) (sets_of sets.now) (flags_of flow.now) u (shape_of shape) result.0 result.1 }
 {
     let p = origin_of(label_of(file, l, o.variable));
     let q = target_origin(file, l, u, shape);

@@ -1,4 +1,6 @@
 //! Judges the design on standard input under a lattice, the chain of 2 where none is named, and prints the verdict.
+#![tactic(auto)]
+
 mod arguments;
 mod explaining;
 mod making;

@@ -31,7 +31,7 @@ impl<'a> Accepted<'a> {
 
 // Finds the layout of a file, and checks the form and the rules.
 fn judge_file<L: Lattice>(file: &[u8], lattice: &L) -> Result<Layout, Refusal>
-    ensures { MatchResult result (Approved (meaning lattice.now) file.now) (Declined (meaning lattice.now) file.now) }
+    ensures { MatchResult result (Approved (L.meaning lattice.now) file.now) (Declined (L.meaning lattice.now) file.now) }
 {
     let layout = read_design(file)?.layout();
     judge_typing(file, layout, lattice)?;
@@ -40,7 +40,7 @@ fn judge_file<L: Lattice>(file: &[u8], lattice: &L) -> Result<Layout, Refusal>
 
 /// Judges a design under a lattice. Its form is checked again, so that nothing is assumed of it.
 pub fn judge<'a, L: Lattice>(formed: &Formed<'a>, lattice: &L) -> Result<Accepted<'a>, Refusal>
-    ensures verdict { MatchResult result (λ a. Approved (meaning lattice.now) formed.now.file.now a.layout) (Declined (meaning lattice.now) formed.now.file.now) }
+    ensures verdict { MatchResult result (λ a. Approved (L.meaning lattice.now) formed.now.file.now a.layout) (Declined (L.meaning lattice.now) formed.now.file.now) }
     ensures file { IfOk result (λ a. a.file.now ≡ formed.now.file.now) }
 {
     let file = formed.file();

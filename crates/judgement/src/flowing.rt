@@ -12,9 +12,9 @@ use refusal::{Refusal, Section};
 
 /// Refuses a design with an assignment that breaks rule 13.
 pub(crate) fn check_flows<L: Lattice>(file: &[u8], l: Layout, lattice: &L) -> Result<(), Refusal>
-    ensures { Levelled (meaning lattice.now) (design_of file.now l) → MatchResult result
-        (λ _. BlocksPass (meaning lattice.now) file.now l)
-        (Leaks (meaning lattice.now) file.now l) }
+    ensures { Levelled (L.meaning lattice.now) (design_of file.now l) → MatchResult result
+        (λ _. BlocksPass (L.meaning lattice.now) file.now l)
+        (Leaks (L.meaning lattice.now) file.now l) }
 {
     let start = Path::start();
     for b in 0..l.count(Section::Blocks) {

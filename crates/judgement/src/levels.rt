@@ -15,7 +15,7 @@ use refusal::{Place, Refusal, Section};
 
 // Whether every entry of table `t` is a level.
 fn is_table_fine<L: Lattice>(file: &[u8], l: Layout, lattice: &L, t: u32) -> bool
-    ensures { Decides result (TableLevels (meaning lattice.now) (design_of file.now l) t) }
+    ensures { Decides result (TableLevels (L.meaning lattice.now) (design_of file.now l) t) }
 {
     let count = lattice.count();
     for i in 0..16 {
@@ -28,7 +28,7 @@ fn is_table_fine<L: Lattice>(file: &[u8], l: Layout, lattice: &L, t: u32) -> boo
 
 // Whether the label of variable `v`, where it is fixed, is a level.
 fn is_label_fine<L: Lattice>(file: &[u8], l: Layout, lattice: &L, v: u32) -> bool
-    ensures { Decides result (LabelLevel (meaning lattice.now) (design_of file.now l) v) }
+    ensures { Decides result (LabelLevel (L.meaning lattice.now) (design_of file.now l) v) }
 {
     match label_of(file, l, v) {
         Label::Fixed { level } => level < lattice.count(),
@@ -38,8 +38,8 @@ fn is_label_fine<L: Lattice>(file: &[u8], l: Layout, lattice: &L, v: u32) -> boo
 
 /// Refuses the first table that has an entry which is no level.
 pub(crate) fn check_tables<L: Lattice>(file: &[u8], l: Layout, lattice: &L) -> Result<(), Refusal>
-    ensures { MatchResult result (λ _. TablesFine (meaning lattice.now) (design_of file.now l))
-        (Finds no_table (First (TableLevels (meaning lattice.now) (design_of file.now l)))) }
+    ensures { MatchResult result (λ _. TablesFine (L.meaning lattice.now) (design_of file.now l))
+        (Finds no_table (First (TableLevels (L.meaning lattice.now) (design_of file.now l)))) }
 {
     let count = table_count(file, l);
     for t in 0..count {
@@ -57,8 +57,8 @@ pub(crate) fn check_tables<L: Lattice>(file: &[u8], l: Layout, lattice: &L) -> R
 
 /// Refuses the first variable whose fixed label is no level.
 pub(crate) fn check_labels<L: Lattice>(file: &[u8], l: Layout, lattice: &L) -> Result<(), Refusal>
-    ensures { MatchResult result (λ _. LabelsFine (meaning lattice.now) (design_of file.now l))
-        (Finds no_label (First (LabelLevel (meaning lattice.now) (design_of file.now l)))) }
+    ensures { MatchResult result (λ _. LabelsFine (L.meaning lattice.now) (design_of file.now l))
+        (Finds no_label (First (LabelLevel (L.meaning lattice.now) (design_of file.now l)))) }
 {
     let count = variable_count(file, l);
     for v in 0..count {
@@ -83,7 +83,7 @@ fn is_under_entries<L: Lattice>(
     t: u32,
     width: u32,
 ) -> bool
-    ensures { Decides result ((x : ℕ) → x < 16 → x < 2 ^ width → Below (meaning lattice.now) k (entry (design_of file.now l) t x)) }
+    ensures { Decides result ((x : ℕ) → x < 16 → x < 2 ^ width → Below (L.meaning lattice.now) k (entry (design_of file.now l) t x)) }
 {
     for x in 0..16 {
         if fits_width(x, width) {
@@ -97,7 +97,7 @@ fn is_under_entries<L: Lattice>(
 
 // Whether the selector of variable `v` keeps to rule 12.
 fn is_selector_fine<L: Lattice>(file: &[u8], l: Layout, lattice: &L, v: u32) -> bool
-    ensures { Decides result (Test12 (meaning lattice.now) (design_of file.now l) v) }
+    ensures { Decides result (Test12 (L.meaning lattice.now) (design_of file.now l) v) }
 {
     match label_of(file, l, v) {
         Label::Fixed { .. } => true,
@@ -116,8 +116,8 @@ pub(crate) fn check_selectors<L: Lattice>(
     l: Layout,
     lattice: &L,
 ) -> Result<(), Refusal>
-    ensures { MatchResult result (λ _. Tests12 (meaning lattice.now) (design_of file.now l))
-        (Finds too_high (First (Test12 (meaning lattice.now) (design_of file.now l)))) }
+    ensures { MatchResult result (λ _. Tests12 (L.meaning lattice.now) (design_of file.now l))
+        (Finds too_high (First (Test12 (L.meaning lattice.now) (design_of file.now l)))) }
 {
     let count = variable_count(file, l);
     for v in 0..count {

@@ -1,4 +1,6 @@
 //! The judge: whether a design keeps the typing rules under a lattice, and the refusal where it does not.
+#![tactic(auto)]
+
 mod accepted;
 mod flowing;
 mod levels;

@@ -61,7 +61,7 @@ fn check_assignment<L: Lattice>(
     n: u32,
     u: u32,
 ) -> Option<u32>
-    ensures { (ways : List Way) → Tracks ways path.now → (e : Expr) → Stayed (meaning lattice.now) (design_of file.now l) ways (assign u e n) result }
+    ensures { (ways : List Way) → Tracks ways path.now → (e : Expr) → Stayed (L.meaning lattice.now) (design_of file.now l) ways (assign u e n) result }
 {
     match label_of(file, l, u) {
         Label::Fixed { .. } => None,
@@ -83,7 +83,7 @@ fn check_assignment<L: Lattice>(
 
 // The lowest assignment in command `n` that breaks rule 14.
 fn lowest_in<L: Lattice>(file: &[u8], l: Layout, lattice: &L, path: &Path, n: u32) -> Option<u32>
-    ensures { (ways : List Way) → Tracks ways path.now → Stayed (meaning lattice.now) (design_of file.now l) ways (cmd_at file.now l n) result }
+    ensures { (ways : List Way) → Tracks ways path.now → Stayed (L.meaning lattice.now) (design_of file.now l) ways (cmd_at file.now l n) result }
 {
     match action_at(file, l, n) {
         Action::Idle => None,
@@ -107,7 +107,7 @@ fn lowest_in<L: Lattice>(file: &[u8], l: Layout, lattice: &L, path: &Path, n: u3
 
 // The same in block `b`, if it is clocked.
 fn lowest_in_block<L: Lattice>(file: &[u8], l: Layout, lattice: &L, b: u32) -> Option<u32>
-    ensures { StayedIn (meaning lattice.now) file.now l b result }
+    ensures { StayedIn (L.meaning lattice.now) file.now l b result }
 {
     let block = block_at(file, l, b);
     if !is_clocked(block.kind) {
@@ -118,7 +118,7 @@ fn lowest_in_block<L: Lattice>(file: &[u8], l: Layout, lattice: &L, b: u32) -> O
 
 // The same in all clocked blocks.
 fn lowest<L: Lattice>(file: &[u8], l: Layout, lattice: &L) -> Option<u32>
-    ensures { StayedAll (meaning lattice.now) (design_of file.now l) result }
+    ensures { StayedAll (L.meaning lattice.now) (design_of file.now l) result }
 {
     let mut found = None;
     for b in 0..l.count(Section::Blocks) {
@@ -129,8 +129,8 @@ fn lowest<L: Lattice>(file: &[u8], l: Layout, lattice: &L) -> Option<u32>
 
 /// Refuses the first assignment that breaks rule 14.
 pub(crate) fn check_stays<L: Lattice>(file: &[u8], l: Layout, lattice: &L) -> Result<(), Refusal>
-    ensures { MatchResult result (λ _. Every Anything (Test14 (meaning lattice.now) (design_of file.now l)) (design_of file.now l).clocked)
-        (Finds condition_high (Lowest14 (meaning lattice.now) (design_of file.now l))) }
+    ensures { MatchResult result (λ _. Every Anything (Test14 (L.meaning lattice.now) (design_of file.now l)) (design_of file.now l).clocked)
+        (Finds condition_high (Lowest14 (L.meaning lattice.now) (design_of file.now l))) }
 {
     match lowest(file, l, lattice) {
         None => Ok(()),

@@ -14,8 +14,8 @@ use refusal::Refusal;
 /// Checks the typing rules of a formed design.
 pub(crate) fn judge_typing<L: Lattice>(file: &[u8], l: Layout, lattice: &L) -> Result<(), Refusal>
     ensures { Formed (design_of file.now l) → MatchResult result
-        (λ _. Accepts (meaning lattice.now) (design_of file.now l))
-        (Rejects (meaning lattice.now) (design_of file.now l)) }
+        (λ _. Accepts (L.meaning lattice.now) (design_of file.now l))
+        (Rejects (L.meaning lattice.now) (design_of file.now l)) }
 {
     check_tables(file, l, lattice)?;
     check_labels(file, l, lattice)?;

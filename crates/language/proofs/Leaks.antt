@@ -8,7 +8,7 @@ use Rattle.language.specs.Machine.{Valuation, opening, Call, drive, clock, answe
 use Rattle.language.specs.Form.{Way, Every, Reads, Clocks, Selects, Formed}
 use Rattle.language.specs.Typing.{Allowed, Flows, Stays, Reaches, TableLevels, LabelLevel, Anything, Typed}
 use Rattle.language.specs.Guarantee.{strike, final, Secure}
-use Rattle.lattice.proofs.Chains.{chain_laws}
+use Rattle.lattice.specs.Chains.{chain_laws}
 use Rattle.language.specs.Leaks.{two, Rules, Separate, Entries, BareFlows, AllRules, ConditionsLeftOut, SkipsAllowed, AnyEntries, OverlapsAllowed, keep_run, KeptBounded, sample, copying, skipping, overlapping, levelless, keeping, Leaks}
 
 -- ---- the chain of two levels

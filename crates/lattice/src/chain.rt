@@ -1,5 +1,6 @@
 //! C: a chain of levels.
 ghost use Rattle.std.specs.Prelude.{◌≡◌, ℕ, ◌<◌, ◌≤◌};
+ghost use Rattle.lattice.specs.Chains.{chain_laws};
 ghost use Rattle.lattice.specs.Kinds.{chain};
 ghost use Rattle.refusal.specs.Outcome.{MadeIf};
 ghost use Rattle.refusal.specs.declared.Refusal.TheVariants.{OutsideLimits};
@@ -31,6 +32,14 @@ impl Lattice for Chain {
     const SIGN: char = 'C';
 
     ghost meaning = { λ s. chain s.n };
+
+    ghost lawful = { λ s. chain_laws s.n s.some s.most };
+
+    ghost levels = { λ s. (chain_laws s.n s.some s.most).order.levels };
+
+    ghost reflexive = { λ s. (chain_laws s.n s.some s.most).order.reflexive };
+
+    ghost transitive = { λ s. (chain_laws s.n s.some s.most).order.transitive };
 
     fn count(&self) -> u32 {
         self.n

@@ -1,4 +1,6 @@
 //! Security lattices behind one trait: chains, sets of owners, pairs and reversals.
+#![tactic(auto)]
+
 ghost use Rattle.std.specs.Prelude.{◌≡◌, ℕ, ◌<◌, true};
 ghost use Rattle.lattice.specs.Meaning.{Meaning, Laws, Joins, Meets, Lowest, Highest};
 

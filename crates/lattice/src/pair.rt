@@ -1,5 +1,6 @@
 //! P: the pair of two lattices.
 ghost use Rattle.std.specs.Prelude.{◌≡◌, ℕ, ◌+◌, ◌*◌, ◌<◌, ◌≤◌, MatchOption, nat_lt};
+ghost use Rattle.lattice.specs.Pairs.{pair_laws};
 ghost use Rattle.lattice.specs.Kinds.{pair, TwoLevels};
 ghost use Rattle.refusal.specs.Outcome.{MadeIf};
 ghost use Rattle.refusal.specs.declared.Refusal.TheVariants.{OutsideLimits};
@@ -67,6 +68,14 @@ impl<A: Lattice, B: Lattice> Lattice for Pair<A, B> {
     const SIGN: char = 'P';
 
     ghost meaning = { λ s. pair (A.Lattice.meaning s.first) (B.Lattice.meaning s.second) };
+
+    ghost lawful = { λ s. pair_laws (A.Lattice.lawful s.first) (B.Lattice.lawful s.second) };
+
+    ghost levels = { λ s. (pair_laws (A.Lattice.lawful s.first) (B.Lattice.lawful s.second)).order.levels };
+
+    ghost reflexive = { λ s. (pair_laws (A.Lattice.lawful s.first) (B.Lattice.lawful s.second)).order.reflexive };
+
+    ghost transitive = { λ s. (pair_laws (A.Lattice.lawful s.first) (B.Lattice.lawful s.second)).order.transitive };
 
     fn count(&self) -> u32 {
         match pair_count(&self.first, &self.second) {

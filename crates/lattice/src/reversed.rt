@@ -1,5 +1,6 @@
 //! R: a lattice turned round.
 ghost use Rattle.std.specs.Prelude.{◌≡◌};
+ghost use Rattle.lattice.specs.Reversals.{reversed_laws};
 ghost use Rattle.lattice.specs.Kinds.{reversed};
 
 use crate::{Lattice, Level};
@@ -14,6 +15,14 @@ impl<A: Lattice> Lattice for Reversed<A> {
     const SIGN: char = 'R';
 
     ghost meaning = { λ s. reversed (A.Lattice.meaning s.of) };
+
+    ghost lawful = { λ s. reversed_laws (A.Lattice.lawful s.of) };
+
+    ghost levels = { λ s. (reversed_laws (A.Lattice.lawful s.of)).order.levels };
+
+    ghost reflexive = { λ s. (reversed_laws (A.Lattice.lawful s.of)).order.reflexive };
+
+    ghost transitive = { λ s. (reversed_laws (A.Lattice.lawful s.of)).order.transitive };
 
     fn count(&self) -> u32 {
         self.of.count()

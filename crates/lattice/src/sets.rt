@@ -1,5 +1,6 @@
 //! S: the sets of some owners.
 ghost use Rattle.std.specs.Prelude.{◌≡◌, ℕ, ◌<◌, ◌≤◌, Decides};
+ghost use Rattle.lattice.specs.Owners.{sets_laws};
 ghost use Rattle.lattice.specs.Kinds.{sets, Subset};
 ghost use Rattle.refusal.specs.Outcome.{MadeIf};
 ghost use Rattle.refusal.specs.declared.Refusal.TheVariants.{OutsideLimits};
@@ -39,6 +40,14 @@ impl Lattice for Sets {
     const SIGN: char = 'S';
 
     ghost meaning = { λ s. sets s.owners };
+
+    ghost lawful = { λ s. sets_laws s.owners s.most };
+
+    ghost levels = { λ s. (sets_laws s.owners s.most).order.levels };
+
+    ghost reflexive = { λ s. (sets_laws s.owners s.most).order.reflexive };
+
+    ghost transitive = { λ s. (sets_laws s.owners s.most).order.transitive };
 
     fn count(&self) -> u32 {
         1 << self.owners

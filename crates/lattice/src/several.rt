@@ -6,8 +6,8 @@ use crate::{Lattice, Level};
 
 /// Whether each of the levels is at or below `top`: at a level `top`, whether their join is.
 pub fn all_below<L: Lattice>(l: &L, levels: &[Level], top: Level) -> bool
-    ensures each { Decides result (EachBelow (meaning l.now) levels.now top) }
-    ensures join { top < (meaning l.now).count → (j : ℕ) → Joined (meaning l.now) levels.now j → (meaning l.now).below j top ≡ result }
+    ensures each { Decides result (EachBelow (L.meaning l.now) levels.now top) }
+    ensures join { top < (L.meaning l.now).count → (j : ℕ) → Joined (L.meaning l.now) levels.now j → (L.meaning l.now).below j top ≡ result }
 {
     for a in levels {
         if !l.is_below(*a, top) {
@@ -20,8 +20,8 @@ pub fn all_below<L: Lattice>(l: &L, levels: &[Level], top: Level) -> bool
 /// The least level at or above each of the levels; of none, the lowest. Nothing where one of them is no level.
 pub fn join_all<L: Lattice>(l: &L, levels: &[Level]) -> Option<Level>
     ensures { MatchOption result
-        (All (λ a. a < (meaning l.now).count) levels.now → ⊥)
-        (λ j. Joined (meaning l.now) levels.now j) }
+        (All (λ a. a < (L.meaning l.now).count) levels.now → ⊥)
+        (λ j. Joined (L.meaning l.now) levels.now j) }
 {
     let mut join = l.lowest();
     for a in levels {

@@ -1,4 +1,6 @@
 //! Reads a clearance table as text, n lines of n digits 0 or 1, and prints what it means, or the refusal.
+#![tactic(auto)]
+
 use clearance::read_table;
 use lattice::{Lattice, Level};
 use std::io;

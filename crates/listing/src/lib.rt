@@ -1,4 +1,6 @@
 //! Designs, and refusals, as text for an engineer.
+#![tactic(auto)]
+
 mod commands;
 mod expressions;
 mod reasons;

@@ -131,7 +131,7 @@ pub fn answer<L: Lattice>(
     watcher: Level,
     v: u32,
 ) -> Result<(u32, Level), Refusal>
-    ensures { result ≡ answer (meaning lattice.now) (design_of file.now l) (valuation held.now) watcher v }
+    ensures { result ≡ answer (L.meaning lattice.now) (design_of file.now l) (valuation held.now) watcher v }
 {
     if !is_variable(file, l, v) {
         return Err(Refusal::NotAVariable { number: v });

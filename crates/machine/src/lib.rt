@@ -1,4 +1,6 @@
 //! What a design does: expressions, commands, settling, levels, clearing, and the calls of a session, over held values.
+#![tactic(auto)]
+
 mod blocks;
 mod calls;
 mod held;

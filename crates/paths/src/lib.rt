@@ -1,4 +1,6 @@
 //! What the typing rules look at: labels, the values that a path leaves to variables, the variables in the conditions
+#![tactic(auto)]
+
 //! around, and where levels come from.
 mod conditions;
 mod labels;

@@ -1,4 +1,6 @@
 //! A design file: its bytes, where its sections lie, its records, and the trees that they describe.
+#![tactic(auto)]
+
 mod bytes;
 mod cells;
 mod layout;

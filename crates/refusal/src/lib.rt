@@ -1,4 +1,6 @@
 //! Every refusal that a caller can meet, with its number and its place.
+#![tactic(auto)]
+
 ghost use Rattle.std.specs.Prelude.{◌≡◌, Some};
 ghost use Rattle.refusal.specs.Notice.{notice, section_number, line};
 

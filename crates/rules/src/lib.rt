@@ -1,4 +1,6 @@
 //! The rules of form: whether a record breaks one.
+#![tactic(auto)]
+
 ghost use Rattle.std.specs.Prelude.{◌≡◌, ◌<◌};
 ghost use Rattle.records.specs.Layouts.{count_in};
 ghost use Rattle.rules.specs.Parts.{misused};

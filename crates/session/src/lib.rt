@@ -1,4 +1,6 @@
 //! Sessions: an accepted design, run by cycles and read by watchers.
+#![tactic(auto)]
+
 ghost use Rattle.std.specs.Prelude.{◌≡◌, ℕ};
 ghost use Rattle.language.specs.Machine.{opening, step, driven, answer, drive, clock, reset};
 ghost use Rattle.records.specs.Trees.{design_of};
@@ -64,7 +66,7 @@ impl<'a> Session<'a> {
         watcher: Level,
         variable: u32,
     ) -> Result<(u32, Level), Refusal>
-        ensures { result ≡ answer (meaning lattice.now) (design_of self.now.design.file.now self.now.design.layout) (valuation self.now.held) watcher variable }
+        ensures { result ≡ answer (L.meaning lattice.now) (design_of self.now.design.file.now self.now.design.layout) (valuation self.now.held) watcher variable }
     {
         machine::answer(
             self.design.file(),

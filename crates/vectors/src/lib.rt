@@ -1,4 +1,6 @@
 //! Arithmetic of unsigned vectors, as numbers. It takes any numbers, also ones past the width.
+#![tactic(auto)]
+
 ghost use Rattle.std.specs.Prelude.{◌≡◌, ◌%◌, ◌^◌, ◌≤◌, MatchOption, ◌==◌, bit_and, bit_or, bit_xor, nat_lt};
 ghost use Rattle.language.specs.Syntax.{sum, difference};
 ghost use Rattle.language.specs.Vectors.{bit, complemented, operated, «shifted_left», «shifted_right», «part_from», «joined_above», chosen};

@@ -1,4 +1,6 @@
 //! The worked rows hold of the definitions.
+#![tactic(auto)]
+
 ghost use Rattle.lattice.specs.Meaning.{All};
 ghost use Rattle.worked.specs.Rows.{Holds, rows};
 

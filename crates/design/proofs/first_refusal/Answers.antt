@@ -12,13 +12,13 @@ loop-k-init c = first_none (λ k. refused_by c.args.file.now c.args.l (rule_at k
 pub loop-k-preserved : goal.loop-k-preserved
 loop-k-preserved c =
     first_more (λ k. refused_by c.args.file.now c.args.l (rule_at k)) c.loop-k.k c.loop-k.invariant
-    (ap (refused_by c.args.file.now c.args.l) (sym c.rule-at.ensures) ∙ sym c.in-None.ensures)
+    (ap (refused_by c.args.file.now c.args.l) (sym c.rule_at.ensures) ∙ sym c.in-None.ensures)
 
 pub returns-in-Some : goal.returns-in-Some
 returns-in-Some c =
     let is : Some c.in-Some.r ≡ form_refusal c.args.file.now c.args.l =
     sym (first_found (λ k. refused_by c.args.file.now c.args.l (rule_at k)) c.in-Some.r c.loop-k.k 6 c.loop-k.invariant
-    (ap (refused_by c.args.file.now c.args.l) (sym c.rule-at.ensures) ∙ sym c.in-Some.ensures) c.loop-k-test.true) in
+    (ap (refused_by c.args.file.now c.args.l) (sym c.rule_at.ensures) ∙ sym c.in-Some.ensures) c.loop-k-test.true) in
     record { is = is; says = subst (Says c.args.file.now c.args.l) (sym is) (says c.args.file.now c.args.l) }
 
 pub returns : goal.returns

@@ -1,5 +1,5 @@
 use Rattle.std.proofs.Common.{refl, arith, lit<}
-use Rattle.lattice.proofs.Owners.{sets_joins, sets_meets}
+use Rattle.lattice.specs.Owners.{sets_joins, sets_meets}
 use Rattle.worked.proofs.Taking.{taking_formed, taking_1_typed, taking_2_breaks}
 use Rattle.worked.proofs.Remembering.{one_formed, one_flows, one_breaks, both_formed, both_typed}
 use Rattle.worked.proofs.rows_hold.Goals as goal

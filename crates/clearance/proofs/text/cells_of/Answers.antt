@@ -12,11 +12,11 @@ pub loop-k-preserved : goal.loop-k-preserved
 loop-k-preserved c =
     let k = c.loop-k.k in
     let all = c.loop-k.all in
-    let x = c.digit-of.result in
+    let x = c.digit_of.result in
     let P : ℕ → Type 0 = λ j. get_or (set all k x) j 0 ≡ cell c.args.n c.args.text.now j in
     let here : k < length all = omega (arith, bounds-all-k c) in (
       simp length-set c.loop-k.invariant.0,
-      below_more P k (λ j h. let ne : j ≢ k = omega arith in rw get_or-set_other (c.loop-k.invariant.1 j h)) (rw get_or-set_same (c.digit-of.ensures ∙ ap digit c.byte-at.ensures)),
+      below_more P k (λ j h. let ne : j ≢ k = omega arith in rw get_or-set_other (c.loop-k.invariant.1 j h)) (rw get_or-set_same (c.digit_of.ensures ∙ ap digit c.byte_at.ensures)),
     )
 
 pub returns : goal.returns

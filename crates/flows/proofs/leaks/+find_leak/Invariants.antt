@@ -1,4 +1,4 @@
 use Rattle.flows.proofs.leaks.+find_leak.Given as goal
 
-abbrev pub decreases-find-leak : goal.decreases-find-leak
-decreases-find-leak g l = l.n
+abbrev pub decreases-find_leak : goal.decreases-find_leak
+decreases-find_leak g l = l.n

@@ -13,9 +13,9 @@ returns-in-None g c ways tracks levelled =
     let f = c.args.file.now in
     let d : Design = design_of f c.args.l in
     let e : Expr = expr_at f c.args.l c.args.e in
-    let is : place_of c.target-origin-target.result ≡ target_place d c.args.u (shape e) = c.target-origin-target.ensures ∙ ap (target_place d c.args.u) c.shape-of-shape.ensures in
+    let is : place_of c.target_origin-target.result ≡ target_place d c.args.u (shape e) = c.target_origin-target.ensures ∙ ap (target_place d c.args.u) c.shape_of-shape.ensures in
     assignment_passes (g.L.Lattice.meaning c.args.lattice.now) d (few f c.args.l) ways c.args.path.now c.gathered-flow.result tracks e c.gathered-flow.ensures c.args.u
-    (place_of c.target-origin-target.result) is c.in-None.ensures
+    (place_of c.target_origin-target.result) is c.in-None.ensures
 
 pub returns-in-Some : goal.returns-in-Some
 returns-in-Some g c ways tracks levelled =
@@ -29,7 +29,7 @@ returns-in-Some g c ways tracks levelled =
       here = refl;
       shown =
           exposed_shown m d (few f c.args.l) ways c.args.path.now c.gathered-flow.result tracks e c.gathered-flow.ensures c.args.u
-          c.shown-levels-level.result.0 c.shown-levels-level.result.1
-          (subst (λ z. Exposes m d sets flow c.args.u z c.shown-levels-level.result.0 c.shown-levels-level.result.1) c.shape-of-shape.ensures
-          (c.shown-levels-level.ensures levelled (subst (λ q. Offends m d sets flow q c.in-Some.o) c.target-origin-target.ensures c.in-Some.ensures)));
+          c.shown_levels-level.result.0 c.shown_levels-level.result.1
+          (subst (λ z. Exposes m d sets flow c.args.u z c.shown_levels-level.result.0 c.shown_levels-level.result.1) c.shape_of-shape.ensures
+          (c.shown_levels-level.ensures levelled (subst (λ q. Offends m d sets flow q c.in-Some.o) c.target_origin-target.ensures c.in-Some.ensures)));
     }

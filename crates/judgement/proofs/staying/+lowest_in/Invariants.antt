@@ -1,4 +1,4 @@
 use Rattle.judgement.proofs.staying.+lowest_in.Given as goal
 
-abbrev pub decreases-lowest-in : goal.decreases-lowest-in
-decreases-lowest-in g l = l.n
+abbrev pub decreases-lowest_in : goal.decreases-lowest_in
+decreases-lowest_in g l = l.n

@@ -10,19 +10,19 @@ use Rattle.judgement.proofs.Bodies.{always_some, always_none}
 use Rattle.judgement.proofs.Lowest.{not_true}
 use Rattle.judgement.proofs.staying.always_clocked.Goals as goal
 
-pub returns-then-always-assigns : goal.returns-then-always-assigns
-returns-then-always-assigns c =
+pub returns-then-always_assigns : goal.returns-then-always_assigns
+returns-then-always_assigns c =
     let f = c.args.file.now in
     let l = c.args.l in
     let v = c.args.v in
     let b = c.loop-b.b in
     let room : b < count_in l Blocks = omega (arith, c.count-b-end.ensures.is, c.loop-b-test.true) in
     let wanted : not (settled_at f l b) ≡ true =
-    ap (λ (x : Block). not (is_settled x.kind)) (sym c.block-at-block.ensures) ∙ sym c.if-is-clocked.ensures in
-    let on : always (cmd_at f l c.block-at-block.result.top) v ≡ true = sym c.if-always-assigns.ensures in
+    ap (λ (x : Block). not (is_settled x.kind)) (sym c.block_at-block.ensures) ∙ sym c.if-is_clocked.ensures in
+    let on : always (cmd_at f l c.block_at-block.result.top) v ≡ true = sym c.if-always_assigns.ensures in
     sym (ap (λ z. always (together z) v) (clocked_is f l)
     ∙ always_some f l (λ k. not (settled_at f l k)) v 0 (count_in l Blocks) b (omega arith) (omega (arith, room)) wanted
-    (subst (λ (x : Block). always (cmd_at f l x.top) v ≡ true) c.block-at-block.ensures on))
+    (subst (λ (x : Block). always (cmd_at f l x.top) v ≡ true) c.block_at-block.ensures on))
 
 pub returns : goal.returns
 returns c =

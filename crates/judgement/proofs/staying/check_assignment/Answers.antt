@@ -20,7 +20,7 @@ returns-in-Some g c ways tracks e =
     let d : Design = design_of f c.args.l in
     let u = c.args.u in
     let own : (var d u).label ≡ looked_up c.in-LookedUp.table u = sym c.in-LookedUp.ensures ∙ ap (looked_up c.in-LookedUp.table) c.if-selector-u.false in
-    let off : always (together d.clocked) u ≡ false = sym c.always-clocked.ensures ∙ c.if-always-clocked.false in
+    let off : always (together d.clocked) u ≡ false = sym c.always_clocked.ensures ∙ c.if-always_clocked.false in
     record {
       here = (refl, stay_breaks (g.L.Lattice.meaning c.args.lattice.now) d (few f c.args.l) ways c.args.path.now tracks u c.in-LookedUp.table own e c.in-Some.field-0 off c.in-Some.ensures);
       lower = λ h. absurd (omega arith);

@@ -11,7 +11,7 @@ loop-b-preserved g c =
     let f = c.args.file.now in
     let l = c.args.l in
     subst (StayedTo m f l (c.loop-b.b + 1)) (sym c.lower-found.ensures)
-    (stayed_more m f l c.loop-b.b c.loop-b.found c.lowest-in-block.result c.loop-b.invariant c.lowest-in-block.ensures)
+    (stayed_more m f l c.loop-b.b c.loop-b.found c.lowest_in_block.result c.loop-b.invariant c.lowest_in_block.ensures)
 
 pub returns : goal.returns
 returns g c =

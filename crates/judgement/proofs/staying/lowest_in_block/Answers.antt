@@ -11,6 +11,6 @@ returns g c =
     let f = c.args.file.now in
     let l = c.args.l in
     let off : settled_at f l c.args.b ≡ false =
-    ap (λ (x : Block). is_settled x.kind) (sym c.block-at-block.ensures) ∙ not_true (is_settled c.block-at-block.result.kind) (sym c.is-clocked.ensures ∙ c.if-not-is-clocked.false) in
-    stayed_clocked m f l c.args.b c.lowest-in.result off
-    (subst (λ (x : Block). Stayed m (design_of f l) [] (cmd_at f l x.top) c.lowest-in.result) c.block-at-block.ensures (c.lowest-in.ensures [] c.start.ensures))
+    ap (λ (x : Block). is_settled x.kind) (sym c.block_at-block.ensures) ∙ not_true (is_settled c.block_at-block.result.kind) (sym c.is_clocked.ensures ∙ c.if-not-is_clocked.false) in
+    stayed_clocked m f l c.args.b c.lowest_in.result off
+    (subst (λ (x : Block). Stayed m (design_of f l) [] (cmd_at f l x.top) c.lowest_in.result) c.block_at-block.ensures (c.lowest_in.ensures [] c.start.ensures))

@@ -6,15 +6,15 @@ use Rattle.lattice.proofs.Joining.{join_decides}
 use Rattle.lattice.proofs.Lists.{all_append, all_place}
 use Rattle.lattice.proofs.several.all_below.Goals as goal
 
-pub returns-then-not-is-below : goal.returns-then-not-is-below
-returns-then-not-is-below g c =
+pub returns-then-not-is_below : goal.returns-then-not-is_below
+returns-then-not-is_below g c =
     let l = c.args.l.now in
     let m = g.L.Lattice.meaning l in
     let levels = c.args.levels.now in
     let top = c.args.top in
     let each : Decides false (EachBelow m levels top) = (
       λ e. absurd (false≢true e),
-      λ all. c.if-not-is-below.ensures ∙ all_place (λ (a : ℕ). Below m a top) 0 levels c.loop-a.a-index c.loop-a-test.true all,
+      λ all. c.if-not-is_below.ensures ∙ all_place (λ (a : ℕ). Below m a top) 0 levels c.loop-a.a-index c.loop-a-test.true all,
     ) in
     record { each = each; join = join_decides (g.met.L.Lattice.lawful l) levels top false each }
 
@@ -24,7 +24,7 @@ loop-a-preserved g c =
     let levels = c.args.levels.now in
     let top = c.args.top in
     subst (λ (xs : List ℕ). EachBelow m xs top) (sym (take_more levels c.loop-a.a-index 0 c.loop-a-test.true))
-    (all_append (λ (a : ℕ). Below m a top) _ _ c.loop-a.invariant (sym c.if-not-is-below.ensures, tt))
+    (all_append (λ (a : ℕ). Below m a top) _ _ c.loop-a.invariant (sym c.if-not-is_below.ensures, tt))
 
 pub returns : goal.returns
 returns g c =

@@ -13,4 +13,4 @@ loop-b-init c = (omega arith, λ v lt. ap (λ cs. after (valuation c.args.before
 pub loop-b-preserved : goal.loop-b-preserved
 loop-b-preserved c =
     let low : c.loop-b.b < count_in c.args.l Blocks = omega (arith, c.count-b-end.ensures.is, c.loop-b-test.true) in
-    (omega (arith, low), λ v lt. clock_more c.args.file.now c.args.l (valuation c.args.before.now) c.loop-b.next c.clock-block.new.held c.loop-b.b low c.clock-block.ensures v lt ∙ c.loop-b.invariant.1 v lt)
+    (omega (arith, low), λ v lt. clock_more c.args.file.now c.args.l (valuation c.args.before.now) c.loop-b.next c.clock_block.new.held c.loop-b.b low c.clock_block.ensures v lt ∙ c.loop-b.invariant.1 v lt)

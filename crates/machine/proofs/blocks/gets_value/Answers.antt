@@ -12,12 +12,12 @@ loop-b-init c =
     let e = settles_all c.args.file.now c.args.l in
     (omega arith, ap (λ cs. gets (valuation c.args.held.now) cs c.args.v) e)
 
-pub returns-then-block-writes : goal.returns-then-block-writes
-returns-then-block-writes c =
+pub returns-then-block_writes : goal.returns-then-block_writes
+returns-then-block_writes c =
     let low : c.loop-b.b < count_in c.args.l Blocks = omega (arith, c.count-b-end.ensures.is, c.loop-b-test.true) in
-    gives_here c.args.file.now c.args.l c.loop-b.values c.loop-b.b c.args.v (gets (valuation c.args.held.now) (design_of c.args.file.now c.args.l).settled c.args.v) low (sym c.block-writes.ensures ∙ c.if-block-writes.true) c.loop-b.invariant.1
+    gives_here c.args.file.now c.args.l c.loop-b.values c.loop-b.b c.args.v (gets (valuation c.args.held.now) (design_of c.args.file.now c.args.l).settled c.args.v) low (sym c.block_writes.ensures ∙ c.if-block_writes.true) c.loop-b.invariant.1
 
 pub loop-b-preserved : goal.loop-b-preserved
 loop-b-preserved c =
     let low : c.loop-b.b < count_in c.args.l Blocks = omega (arith, c.count-b-end.ensures.is, c.loop-b-test.true) in
-    (omega (arith, low), gives_more c.args.file.now c.args.l c.loop-b.values c.settle-block.new.held c.loop-b.b c.args.v (gets (valuation c.args.held.now) (design_of c.args.file.now c.args.l).settled c.args.v) low c.settle-block.ensures (sym c.block-writes.ensures ∙ c.if-block-writes.false) c.loop-b.invariant.1)
+    (omega (arith, low), gives_more c.args.file.now c.args.l c.loop-b.values c.settle_block.new.held c.loop-b.b c.args.v (gets (valuation c.args.held.now) (design_of c.args.file.now c.args.l).settled c.args.v) low c.settle_block.ensures (sym c.block_writes.ensures ∙ c.if-block_writes.false) c.loop-b.invariant.1)

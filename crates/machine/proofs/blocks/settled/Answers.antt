@@ -15,4 +15,4 @@ loop-b-init c =
 pub loop-b-preserved : goal.loop-b-preserved
 loop-b-preserved c =
     let low : c.loop-b.b < count_in c.args.l Blocks = omega (arith, c.count-b-end.ensures.is, c.loop-b-test.true) in
-    (omega (arith, low), settle_more c.args.file.now c.args.l c.loop-b.now c.settle-block.new.held c.loop-b.b (values (design_of c.args.file.now c.args.l) (valuation c.args.held.now)) low c.settle-block.ensures c.loop-b.invariant.1)
+    (omega (arith, low), settle_more c.args.file.now c.args.l c.loop-b.now c.settle_block.new.held c.loop-b.b (values (design_of c.args.file.now c.args.l) (valuation c.args.held.now)) low c.settle_block.ensures c.loop-b.invariant.1)

@@ -18,6 +18,6 @@ pub returns : goal.returns
 returns c =
     let lt : c.args.v < count_in c.args.l Variables = omega (arith, c.count.ensures.is, c.if-v-count.false) in
     record {
-      is = var_at c.args.file.now c.args.l c.args.v lt ∙ ap variable_of (sym c.variable-at.ensures);
+      is = var_at c.args.file.now c.args.l c.args.v lt ∙ ap variable_of (sym c.variable_at.ensures);
       inside = sym (inside_at c.args.file.now c.args.l c.args.v lt);
     }

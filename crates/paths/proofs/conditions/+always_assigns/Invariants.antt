@@ -1,4 +1,4 @@
 use Rattle.paths.proofs.conditions.+always_assigns.Given as goal
 
-abbrev pub decreases-always-assigns : goal.decreases-always-assigns
-decreases-always-assigns l = l.n
+abbrev pub decreases-always_assigns : goal.decreases-always_assigns
+decreases-always_assigns l = l.n

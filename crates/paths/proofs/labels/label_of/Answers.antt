@@ -7,7 +7,7 @@ use Rattle.paths.proofs.labels.label_of.Goals as goal
 
 pub returns-then-v-count : goal.returns-then-v-count
 returns-then-v-count c =
-    c.label-from.ensures ∙ ap (λ (x : Variable). (variable_of x).label) c.variable-at.ensures
+    c.label_from.ensures ∙ ap (λ (x : Variable). (variable_of x).label) c.variable_at.ensures
     ∙ sym (ap (λ (x : tree.Variable). x.label) (var_at c.args.file.now c.args.l c.args.v (subst (λ n. c.args.v < n) c.count.ensures.is c.if-v-count.true)))
 
 pub returns-else-v-count : goal.returns-else-v-count

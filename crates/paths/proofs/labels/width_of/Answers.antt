@@ -6,7 +6,7 @@ use Rattle.paths.proofs.labels.width_of.Goals as goal
 
 pub returns-then-v-count : goal.returns-then-v-count
 returns-then-v-count c =
-    ap (λ (x : Variable). x.width) c.variable-at.ensures
+    ap (λ (x : Variable). x.width) c.variable_at.ensures
     ∙ sym (ap (λ (x : tree.Variable). x.width) (var_at c.args.file.now c.args.l c.args.v (subst (λ n. c.args.v < n) c.count.ensures.is c.if-v-count.true)))
 
 pub returns-else-v-count : goal.returns-else-v-count

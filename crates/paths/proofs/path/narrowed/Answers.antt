@@ -15,7 +15,7 @@ loop-v-preserved c =
     let sets = c.args.sets.now in
     elim c.if-read-v.branch [
       | then-read-v w ↦ subst (λ ys. Narrows sets ys (below (leaves e c.args.way) (v + 1))) (sym w.fewer-is)
-          (narrows_more sets c.loop-v.fewer w.narrow-variable.new.sets (leaves e c.args.way) v c.loop-v.invariant w.narrow-variable.ensures)
+          (narrows_more sets c.loop-v.fewer w.narrow_variable.new.sets (leaves e c.args.way) v c.loop-v.invariant w.narrow_variable.ensures)
       | else-read-v w ↦ subst (λ ys. Narrows sets ys (below (leaves e c.args.way) (v + 1))) (sym w.fewer-is)
           (narrows_same sets c.loop-v.fewer (leaves e c.args.way) v
           (λ x. unread_leaves v x e c.args.way (or_parts (mentions e v) (flags_of (replicate 128 false) v) (sym (c.gathered-read.ensures v c.loop-v-test.true) ∙ w.if-read-v.false)).0) c.loop-v.invariant)

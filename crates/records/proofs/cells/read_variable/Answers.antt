@@ -7,4 +7,4 @@ returns-in-len4-up c =
     let h : 4 ≤ length c.args.part.now = omega (arith, ltb-false) in
     let e = variable_is c.args.part.now h in
     let t = rest_is c.args.part.now 4 in
-    simp (c.kind-from.ensures, c.form-from.ensures, c.field.ensures, c.field-in-len4-up.ensures, t, e)
+    simp (c.kind_from.ensures, c.form_from.ensures, c.field.ensures, c.field-in-len4-up.ensures, t, e)

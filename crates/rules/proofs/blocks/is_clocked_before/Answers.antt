@@ -9,10 +9,10 @@ pub loop-b-init : goal.loop-b-init
 loop-b-init c = any_none (clocked_at c.args.file.now c.args.l)
 
 pub loop-b-preserved : goal.loop-b-preserved
-loop-b-preserved c = any_more (clocked_at c.args.file.now c.args.l) c.loop-b.b ∙ or_from _ _ c.loop-b.invariant (sym c.if-is-clocked.ensures)
+loop-b-preserved c = any_more (clocked_at c.args.file.now c.args.l) c.loop-b.b ∙ or_from _ _ c.loop-b.invariant (sym c.if-is_clocked.ensures)
 
-pub returns-then-is-clocked : goal.returns-then-is-clocked
-returns-then-is-clocked c = sym (any_some (clocked_at c.args.file.now c.args.l) c.args.n c.loop-b.b c.loop-b-test.true (sym c.if-is-clocked.ensures))
+pub returns-then-is_clocked : goal.returns-then-is_clocked
+returns-then-is_clocked c = sym (any_some (clocked_at c.args.file.now c.args.l) c.args.n c.loop-b.b c.loop-b-test.true (sym c.if-is_clocked.ensures))
 
 pub returns : goal.returns
 returns c =

@@ -10,12 +10,12 @@ loop-i-init c = first_none (λ i. refused_in c.args.file.now c.args.l c.args.rul
 pub loop-i-preserved : goal.loop-i-preserved
 loop-i-preserved c =
     first_more (λ i. refused_in c.args.file.now c.args.l c.args.rule (section_at i)) c.loop-i.i c.loop-i.invariant
-    (ap (refused_in c.args.file.now c.args.l c.args.rule) (sym c.section-at.ensures) ∙ sym c.in-None.ensures)
+    (ap (refused_in c.args.file.now c.args.l c.args.rule) (sym c.section_at.ensures) ∙ sym c.in-None.ensures)
 
 pub returns-in-Some : goal.returns-in-Some
 returns-in-Some c =
     sym (first_found (λ i. refused_in c.args.file.now c.args.l c.args.rule (section_at i)) c.in-Some.r c.loop-i.i 5 c.loop-i.invariant
-    (ap (refused_in c.args.file.now c.args.l c.args.rule) (sym c.section-at.ensures) ∙ sym c.in-Some.ensures) c.loop-i-test.true)
+    (ap (refused_in c.args.file.now c.args.l c.args.rule) (sym c.section_at.ensures) ∙ sym c.in-Some.ensures) c.loop-i-test.true)
 
 pub returns : goal.returns
 returns c =

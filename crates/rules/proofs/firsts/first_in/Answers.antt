@@ -14,7 +14,7 @@ pub returns-then-breaks : goal.returns-then-breaks
 returns-then-breaks c =
     let low : c.loop-n.n < count_in c.args.l c.args.section = omega (arith, c.count-n-end.ensures.is, c.loop-n-test.true) in
     let r = refusal_of c.args.rule c.args.section c.loop-n.n in
-    ap Some c.refusal-of.ensures
+    ap Some c.refusal_of.ensures
     ∙ sym (first_found (refused_at c.args.file.now c.args.l c.args.rule c.args.section) r c.loop-n.n (count_in c.args.l c.args.section) c.loop-n.invariant (fails r (sym c.if-breaks.ensures)) low)
 
 pub returns : goal.returns

@@ -1,4 +1,4 @@
 use Rattle.survey.proofs.marks.+mark_early.Given as goal
 
-abbrev pub decreases-mark-early : goal.decreases-mark-early
-decreases-mark-early l = l.n
+abbrev pub decreases-mark_early : goal.decreases-mark_early
+decreases-mark_early l = l.n

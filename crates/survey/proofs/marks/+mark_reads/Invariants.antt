@@ -1,4 +1,4 @@
 use Rattle.survey.proofs.marks.+mark_reads.Given as goal
 
-abbrev pub decreases-mark-reads : goal.decreases-mark-reads
-decreases-mark-reads l = l.e
+abbrev pub decreases-mark_reads : goal.decreases-mark_reads
+decreases-mark_reads l = l.e

@@ -16,9 +16,9 @@ pub loop-b-preserved : goal.loop-b-preserved
 loop-b-preserved c =
     let known = assigns (blocks_to c.args.file.now c.args.l c.loop-b.b) in
     let low : c.loop-b.b < count_in c.args.l Blocks = omega (arith, c.count-b-end.ensures.is, c.loop-b-test.true) in (
-      c.mark-early.auto.marks ∙ c.loop-b.invariant.0,
-      marked_more c.loop-b.marks c.mark-early.new.marks (reads_early c.args.file.now c.args.l) c.loop-b.b c.loop-b.invariant.1
-          (subst (λ x. Marks c.loop-b.marks c.mark-early.new.marks (reads_in (unready c.args.file.now c.args.l known) (cmd_at c.args.file.now c.args.l x.top))) c.block-at.ensures (c.mark-early.ensures known c.loop-b.invariant.2)),
+      c.mark_early.auto.marks ∙ c.loop-b.invariant.0,
+      marked_more c.loop-b.marks c.mark_early.new.marks (reads_early c.args.file.now c.args.l) c.loop-b.b c.loop-b.invariant.1
+          (subst (λ x. Marks c.loop-b.marks c.mark_early.new.marks (reads_in (unready c.args.file.now c.args.l known) (cmd_at c.args.file.now c.args.l x.top))) c.block_at.ensures (c.mark_early.ensures known c.loop-b.invariant.2)),
       assigns_more c.args.file.now c.args.l c.loop-b.b c.union-known.result
           (c.union-known.ensures known (assigns (body_at c.args.file.now c.args.l c.loop-b.b)) c.loop-b.invariant.2 (c.requires.apart c.loop-b.b low)),
     )

@@ -13,11 +13,11 @@ loop-b-init c = (refl, marked_none 512 (writes_wrong c.args.file.now c.args.l))
 
 pub loop-b-preserved : goal.loop-b-preserved
 loop-b-preserved c =
-    let block = c.block-at-block.ensures in (
-      c.mark-wrong.auto.marks ∙ c.loop-b.invariant.0,
-      marked_more c.loop-b.marks c.mark-wrong.new.marks (writes_wrong c.args.file.now c.args.l) c.loop-b.b c.loop-b.invariant.1
-          (subst (λ x. Marks c.loop-b.marks c.mark-wrong.new.marks (writes (wrong_target c.args.file.now c.args.l (is_settled x.kind)) (cmd_at c.args.file.now c.args.l x.top))) c.block-at-block.ensures
-          (subst (λ s. Marks c.loop-b.marks c.mark-wrong.new.marks (writes (wrong_target c.args.file.now c.args.l s) (cmd_at c.args.file.now c.args.l c.block-at-block.result.top))) c.is-settled.ensures c.mark-wrong.ensures)),
+    let block = c.block_at-block.ensures in (
+      c.mark_wrong.auto.marks ∙ c.loop-b.invariant.0,
+      marked_more c.loop-b.marks c.mark_wrong.new.marks (writes_wrong c.args.file.now c.args.l) c.loop-b.b c.loop-b.invariant.1
+          (subst (λ x. Marks c.loop-b.marks c.mark_wrong.new.marks (writes (wrong_target c.args.file.now c.args.l (is_settled x.kind)) (cmd_at c.args.file.now c.args.l x.top))) c.block_at-block.ensures
+          (subst (λ s. Marks c.loop-b.marks c.mark_wrong.new.marks (writes (wrong_target c.args.file.now c.args.l s) (cmd_at c.args.file.now c.args.l c.block_at-block.result.top))) c.is_settled.ensures c.mark_wrong.ensures)),
     )
 
 pub returns : goal.returns

@@ -9,11 +9,11 @@ returns-in-Idle t c =
     (record { some = lists_none; always = lists_none; twice = lists_none })
 
 pub returns-in-Both : goal.returns-in-Both
-returns-in-Both t c = subst (λ x. Reaches x c.in-turn.result) (sym c.in-Both.ensures.tree) (c.in-turn.ensures _ _ c.reach-of-x.ensures c.reach-of-y.ensures)
+returns-in-Both t c = subst (λ x. Reaches x c.in_turn.result) (sym c.in-Both.ensures.tree) (c.in_turn.ensures _ _ c.reach_of-x.ensures c.reach_of-y.ensures)
 
 pub returns-in-Choose : goal.returns-in-Choose
 returns-in-Choose t c =
-    subst (λ x. Reaches x c.either_of.result) (sym c.in-Choose.ensures.tree) (c.either_of.ensures _ _ _ c.reach-of-x-in-Choose.ensures c.reach-of-y-in-Choose.ensures)
+    subst (λ x. Reaches x c.either_of.result) (sym c.in-Choose.ensures.tree) (c.either_of.ensures _ _ _ c.reach_of-x-in-Choose.ensures c.reach_of-y-in-Choose.ensures)
 
 pub returns-in-Assign : goal.returns-in-Assign
 returns-in-Assign t c =

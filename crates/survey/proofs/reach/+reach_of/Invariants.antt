@@ -1,4 +1,4 @@
 use Rattle.survey.proofs.reach.+reach_of.Given as goal
 
-abbrev pub decreases-reach-of : goal.decreases-reach-of
-decreases-reach-of l = l.n
+abbrev pub decreases-reach_of : goal.decreases-reach_of
+decreases-reach_of l = l.n

@@ -11,13 +11,13 @@ loop-b-init c = (refl, record { together = reaches_none c.args.file.now c.args.l
 
 pub loop-b-preserved : goal.loop-b-preserved
 loop-b-preserved c =
-    let here : Reaches (body_at c.args.file.now c.args.l c.loop-b.b) c.reach-of-here.result =
-    subst (λ x. Reaches (cmd_at c.args.file.now c.args.l x.top) c.reach-of-here.result) c.block-at.ensures c.reach-of-here.ensures in
+    let here : Reaches (body_at c.args.file.now c.args.l c.loop-b.b) c.reach_of-here.result =
+    subst (λ x. Reaches (cmd_at c.args.file.now c.args.l x.top) c.reach_of-here.result) c.block_at.ensures c.reach_of-here.ensures in
     let room : c.loop-b.b < length c.loop-b.each = omega (arith, c.loop-b.invariant.0, c.count-b-end.ensures.most, c.loop-b-test.true) in (
-      length-set c.loop-b.each c.loop-b.b c.reach-of-here.result.some ∙ c.loop-b.invariant.0,
+      length-set c.loop-b.each c.loop-b.b c.reach_of-here.result.some ∙ c.loop-b.invariant.0,
       record {
-        together = reaches_more c.args.file.now c.args.l c.loop-b.b c.in-turn-all.result (c.in-turn-all.ensures _ _ c.loop-b.invariant.1.together here);
-        apart = apart_more c.args.file.now c.args.l c.loop-b.b c.loop-b.each c.reach-of-here.result.some room here.some c.loop-b.invariant.1.apart;
+        together = reaches_more c.args.file.now c.args.l c.loop-b.b c.in_turn-all.result (c.in_turn-all.ensures _ _ c.loop-b.invariant.1.together here);
+        apart = apart_more c.args.file.now c.args.l c.loop-b.b c.loop-b.each c.reach_of-here.result.some room here.some c.loop-b.invariant.1.apart;
       },
     )
 

@@ -11,7 +11,7 @@ loop-k-init c = adds_none _ (operand_use c.args.file.now c.args.l)
 
 pub loop-k-preserved : goal.loop-k-preserved
 loop-k-preserved c =
-    adds_more _ _ _ (operand_use c.args.file.now c.args.l) c.loop-k.k c.loop-k.invariant (adds_same _ _ _ _ (λ n. ap (λ x. operands_of x n) c.expression-at.ensures) c.add-operands.ensures)
+    adds_more _ _ _ (operand_use c.args.file.now c.args.l) c.loop-k.k c.loop-k.invariant (adds_same _ _ _ _ (λ n. ap (λ x. operands_of x n) c.expression_at.ensures) c.add_operands.ensures)
 
 pub returns : goal.returns
 returns c =

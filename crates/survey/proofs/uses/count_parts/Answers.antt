@@ -11,7 +11,7 @@ loop-k-init c = adds_none _ (part_use c.args.file.now c.args.l)
 
 pub loop-k-preserved : goal.loop-k-preserved
 loop-k-preserved c =
-    adds_more _ _ _ (part_use c.args.file.now c.args.l) c.loop-k.k c.loop-k.invariant (adds_same _ _ _ _ (λ n. ap (λ x. parts_of x n) c.command-at.ensures) c.add-parts.ensures)
+    adds_more _ _ _ (part_use c.args.file.now c.args.l) c.loop-k.k c.loop-k.invariant (adds_same _ _ _ _ (λ n. ap (λ x. parts_of x n) c.command_at.ensures) c.add_parts.ensures)
 
 pub returns : goal.returns
 returns c =

@@ -11,7 +11,7 @@ loop-k-init c = adds_none _ (top_use c.args.file.now c.args.l)
 
 pub loop-k-preserved : goal.loop-k-preserved
 loop-k-preserved c =
-    adds_more _ _ _ (top_use c.args.file.now c.args.l) c.loop-k.k c.loop-k.invariant (adds_same _ _ _ _ (λ n. ap (λ x. use_of x.top n) c.block-at.ensures) c.add-use.ensures)
+    adds_more _ _ _ (top_use c.args.file.now c.args.l) c.loop-k.k c.loop-k.invariant (adds_same _ _ _ _ (λ n. ap (λ x. use_of x.top n) c.block_at.ensures) c.add_use.ensures)
 
 pub returns : goal.returns
 returns c =

@@ -11,7 +11,7 @@ loop-k-init c = adds_none _ (value_use c.args.file.now c.args.l)
 
 pub loop-k-preserved : goal.loop-k-preserved
 loop-k-preserved c =
-    adds_more _ _ _ (value_use c.args.file.now c.args.l) c.loop-k.k c.loop-k.invariant (adds_same _ _ _ _ (λ n. ap (λ x. values_of x n) c.command-at.ensures) c.add-values.ensures)
+    adds_more _ _ _ (value_use c.args.file.now c.args.l) c.loop-k.k c.loop-k.invariant (adds_same _ _ _ _ (λ n. ap (λ x. values_of x n) c.command_at.ensures) c.add_values.ensures)
 
 pub returns : goal.returns
 returns c =

@@ -4,30 +4,30 @@ use Rattle.clearance.specs.Tables.{OrderTable, WorkedOut}
 use Rattle.clearance.proofs.Squares.{square}
 use Rattle.clearance.proofs.Tabled.{turn_back, worked_out}
 use Rattle.clearance.proofs.table.Table.new.Goals as goal
-use Rattle.clearance.proofs.table.Table.new.Goals.{In-Some-joins-of, After-padded-bytes}
+use Rattle.clearance.proofs.table.Table.new.Goals.{In-Some-joins_of, After-padded-bytes}
 
-order_of : (c : In-Some-joins-of) → OrderTable c.args.n c.args.bytes.now
-order_of c = c.is-order.ensures.0 c.if-not-is-order.false
+order_of : (c : In-Some-joins_of) → OrderTable c.args.n c.args.bytes.now
+order_of c = c.is_order.ensures.0 c.if-not-is_order.false
 
-pub returns-in-default-joins-of : goal.returns-in-default-joins-of
-returns-in-default-joins-of c = record {
-  uncounted = λ no. absurd (no (c.if-n-lt1.false, c.if-n-gt-MOST-ROWS.false));
-  unsound = λ _. (λ s. c.in-default-joins-of.ensures (λ a b h k. let met = s.meets a b h k in (met.0, turn_back a b met.0 met.1)), refl);
+pub returns-in_default-joins_of : goal.returns-in_default-joins_of
+returns-in_default-joins_of c = record {
+  uncounted = λ no. absurd (no (c.if-n-lt1.false, c.if-n-gt-MOST_ROWS.false));
+  unsound = λ _. (λ s. c.in_default-joins_of.ensures (λ a b h k. let met = s.meets a b h k in (met.0, turn_back a b met.0 met.1)), refl);
 }
 
 pub padded-bytes-requires : goal.padded-bytes-requires
-padded-bytes-requires c = omega (arith, square c.args.n c.if-n-gt-MOST-ROWS.false, (order_of c).size)
+padded-bytes-requires c = omega (arith, square c.args.n c.if-n-gt-MOST_ROWS.false, (order_of c).size)
 
-whole : (c : After-padded-bytes) → WorkedOut c.args.n c.args.bytes.now c.in-Some.joins c.in-Some-joins-of.meets
-whole c = worked_out _ _ (c.is-order.ensures.0 c.if-not-is-order.false) c.in-Some.ensures c.in-Some-joins-of.ensures
+whole : (c : After-padded-bytes) → WorkedOut c.args.n c.args.bytes.now c.in-Some.joins c.in-Some-joins_of.meets
+whole c = worked_out _ _ (c.is_order.ensures.0 c.if-not-is_order.false) c.in-Some.ensures c.in-Some-joins_of.ensures
 
 kept : (c : After-padded-bytes) → take (c.args.n * c.args.n) c.padded-bytes.result ≡ c.args.bytes.now
 kept c = subst (λ (k : ℕ). take k c.padded-bytes.result ≡ c.args.bytes.now) (whole c).sound.order.size c.padded-bytes.ensures
 
-pub invariant-of-result : goal.invariant-of-result
-invariant-of-result c =
-    let fits = subst⁻¹ (λ (xs : List ℕ). WorkedOut c.args.n xs c.in-Some.joins c.in-Some-joins-of.meets) (kept c) (whole c) in
-    (c.if-n-lt1.false, (c.if-n-gt-MOST-ROWS.false, (∣ fits ∣₁, tt)))
+pub invariant_of-result : goal.invariant_of-result
+invariant_of-result c =
+    let fits = subst⁻¹ (λ (xs : List ℕ). WorkedOut c.args.n xs c.in-Some.joins c.in-Some-joins_of.meets) (kept c) (whole c) in
+    (c.if-n-lt1.false, (c.if-n-gt-MOST_ROWS.false, (∣ fits ∣₁, tt)))
 
 pub returns : goal.returns
-returns c = let d = (goal.at.returns c).After-padded-bytes in ((c.if-n-lt1.false, c.if-n-gt-MOST-ROWS.false), (whole d).sound, refl, kept d)
+returns c = let d = (goal.at.returns c).After-padded-bytes in ((c.if-n-lt1.false, c.if-n-gt-MOST_ROWS.false), (whole d).sound, refl, kept d)

@@ -1,8 +1,8 @@
 use Rattle.std.proofs.Common.{rules}
-use Rattle.lattice.proofs.Pairs.{pair_highest}
+use Rattle.lattice.specs.Pairs.{pair_highest}
 use Rattle.lattice.proofs.pair.PairLattice.highest.Goals as goal
 
-pub returns-else-is-over : goal.returns-else-is-over
-returns-else-is-over g c =
+pub returns-else-is_over : goal.returns-else-is_over
+returns-else-is_over g c =
     let s = c.args.self.now in
-    rw c.level.ensures (pair_highest (g.met.A.Lattice.lawful s.first) (g.met.B.Lattice.lawful s.second) _ _ (search rules) c.highest.ensures c.highest-else-is-over.ensures)
+    rw c.level.ensures (pair_highest (g.met.A.Lattice.lawful s.first) (g.met.B.Lattice.lawful s.second) _ _ (search rules) c.highest.ensures c.highest-else-is_over.ensures)

@@ -1,5 +1,5 @@
 use Rattle.std.proofs.Common.{rules}
-use Rattle.lattice.proofs.Owners.{sets_meets}
+use Rattle.lattice.specs.Owners.{sets_meets}
 use Rattle.lattice.proofs.sets.SetsLattice.meet.Goals as goal
 
 pub returns-then-b-count : goal.returns-then-b-count

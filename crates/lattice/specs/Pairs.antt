@@ -5,8 +5,8 @@ use Rattle.std.proofs.lemmas.Bool.{and_parts, and_from, ltb-false, le-ltb, cond-
 use Rattle.std.proofs.lemmas.Bool.Decides.{nat_tests}
 use Rattle.lattice.specs.Meaning.{Meaning, Below, Ordered, Laws, Lowest, Highest, LeastAbove, GreatestBelow, Joins, Meets}
 use Rattle.lattice.specs.Kinds.{chain, product, pair, TwoLevels}
-use Rattle.lattice.proofs.Chains.{chain_laws}
-use Rattle.lattice.proofs.Reversals.{reversed_laws, turned_meet, turned_join, turned_highest, turned_lowest}
+use Rattle.lattice.specs.Chains.{chain_laws}
+use Rattle.lattice.specs.Reversals.{reversed_laws, turned_meet, turned_join, turned_highest, turned_lowest}
 
 module _ {m n : Meaning} (first : Laws m) (second : Laws n) where
   both : (a b : ℕ) → Below m (a / n.count) (b / n.count) → Below n (a % n.count) (b % n.count) → Below (product m n) a b

@@ -3,7 +3,7 @@ use Rattle.std.proofs.Common.{◌≡◌, ℕ, ◌-◌, ◌^◌, ◌<◌, ◌≤�
 use lib.Pow.{ones_lt}
 use lib.Bits.{bit_and, bit_or, and_self, or_lt, and_le_l, and_mask}
 use Rattle.std.proofs.lemmas.Bool.{eqb-true, ltb-true, eq-eqb, lt-ltb, and_parts, and_from}
-use Rattle.lattice.proofs.Bitsets.{Within, within_le, within_antisym, within_trans, or_left, or_right, or_least, and_left, and_right, and_most, within_owners, owners_within}
+use Rattle.lattice.specs.Bitsets.{Within, within_le, within_antisym, within_trans, or_left, or_right, or_least, and_left, and_right, and_most, within_owners, owners_within}
 use Rattle.lattice.specs.Meaning.{Ordered, Laws, LeastAbove, GreatestBelow, Joins, Meets, Lowest, Highest}
 use Rattle.lattice.specs.Kinds.{sets, Subset}
 
