@@ -1,2 +1,4 @@
 pub mod Tables
 pub mod Text
+pub mod Squares
+pub mod Tabled

@@ -76,7 +76,7 @@ impl<R: Relation> Relation for Turned<R> {
 }
 
 pub(crate) fn is_reflexive<R: Relation>(r: &R) -> bool
-    ensures { Decides result (Reflexive (relation r.now)) }
+    ensures { Decides result (Reflexive (R.relation r.now)) }
 {
     for a in 0..r.size() {
         if !r.holds(a, a) {
@@ -87,7 +87,7 @@ pub(crate) fn is_reflexive<R: Relation>(r: &R) -> bool
 }
 
 pub(crate) fn is_antisymmetric<R: Relation>(r: &R) -> bool
-    ensures { Decides result (Antisymmetric (relation r.now)) }
+    ensures { Decides result (Antisymmetric (R.relation r.now)) }
 {
     let n = r.size();
     for a in 0..n {
@@ -101,7 +101,7 @@ pub(crate) fn is_antisymmetric<R: Relation>(r: &R) -> bool
 }
 
 pub(crate) fn is_transitive<R: Relation>(r: &R) -> bool
-    ensures { Decides result (Transitive (relation r.now)) }
+    ensures { Decides result (Transitive (R.relation r.now)) }
 {
     let n = r.size();
     for a in 0..n {
@@ -117,7 +117,7 @@ pub(crate) fn is_transitive<R: Relation>(r: &R) -> bool
 }
 
 pub(crate) fn is_least_above<R: Relation>(r: &R, a: u32, b: u32, x: u32) -> bool
-    ensures { Decides result (LeastAbove (relation r.now) a b x) }
+    ensures { Decides result (LeastAbove (R.relation r.now) a b x) }
 {
     if !r.holds(a, x) || !r.holds(b, x) {
         return false;
@@ -132,7 +132,7 @@ pub(crate) fn is_least_above<R: Relation>(r: &R, a: u32, b: u32, x: u32) -> bool
 
 // The least number at or above both, where there is one.
 pub(crate) fn least_above<R: Relation>(r: &R, a: u32, b: u32) -> Option<u32>
-    ensures { MatchOption result ((x : ℕ) → LeastAbove (relation r.now) a b x → ⊥) (λ x. LeastAbove (relation r.now) a b x) }
+    ensures { MatchOption result ((x : ℕ) → LeastAbove (R.relation r.now) a b x → ⊥) (λ x. LeastAbove (R.relation r.now) a b x) }
 {
     for x in 0..r.size() {
         if is_least_above(r, a, b, x) {
@@ -144,8 +144,8 @@ pub(crate) fn least_above<R: Relation>(r: &R, a: u32, b: u32) -> Option<u32>
 
 // The least numbers at or above each two, row by row, where there are all.
 pub(crate) fn joins_of<R: Relation>(r: &R) -> Option<[u8; MOST_CELLS]>
-    requires { (relation r.now).count ≤ 16 }
-    ensures { MatchOption result (HasJoins (relation r.now) → ⊥) (λ joins. ListsJoins (relation r.now) joins) }
+    requires { (R.relation r.now).count ≤ 16 }
+    ensures { MatchOption result (HasJoins (R.relation r.now) → ⊥) (λ joins. ListsJoins (R.relation r.now) joins) }
 {
     let n = r.size();
     let mut joins = [0; MOST_CELLS];

@@ -1,5 +1,6 @@
 //! T: the lattice that a table gives.
 ghost use Rattle.std.specs.Prelude.{◌≡◌, ℕ, ◌*◌, ◌<◌, ◌≤◌, true, length, take, Decides, MatchResult};
+ghost use Rattle.clearance.specs.Tabled.{table_laws};
 ghost use Rattle.lattice.specs.Kinds.{table};
 ghost use Rattle.lattice.specs.Meaning.{LeastAbove, GreatestBelow};
 ghost use Rattle.clearance.specs.Tables.{Sound, WorkedOut, Countable, TableRefused, OrderTable};
@@ -97,6 +98,14 @@ impl Lattice for Table {
     const SIGN: char = 'T';
 
     ghost meaning = { λ s. table s.n (take (s.n * s.n) s.bytes) };
+
+    ghost lawful = { λ s. table_laws s.n (take (s.n * s.n) s.bytes) s.joins s.meets s.some s.most s.sound };
+
+    ghost levels = { λ s. (table_laws s.n (take (s.n * s.n) s.bytes) s.joins s.meets s.some s.most s.sound).order.levels };
+
+    ghost reflexive = { λ s. (table_laws s.n (take (s.n * s.n) s.bytes) s.joins s.meets s.some s.most s.sound).order.reflexive };
+
+    ghost transitive = { λ s. (table_laws s.n (take (s.n * s.n) s.bytes) s.joins s.meets s.some s.most s.sound).order.transitive };
 
     fn count(&self) -> u32 {
         self.n

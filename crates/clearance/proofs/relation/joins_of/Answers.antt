@@ -1,6 +1,6 @@
 use Rattle.std.proofs.Common.{◌≡◌, ℕ, ◌*◌, ◌/◌, ◌%◌, ◌<◌, ◌≤◌, ◌≢◌, length, get_or, set, sym, subst, arith, length-set, get_or-set_other, get_or-set_same, below_more}
 use Rattle.lattice.specs.Meaning.{LeastAbove}
-use Rattle.clearance.proofs.Squares.{square, row_below, column_below}
+use Rattle.clearance.specs.Squares.{square, row_below, column_below}
 use Rattle.clearance.proofs.relation.joins_of.Goals as goal
 
 pub bounds-joins-k : goal.bounds-joins-k

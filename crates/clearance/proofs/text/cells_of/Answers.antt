@@ -2,7 +2,7 @@ use Rattle.std.proofs.Common.{◌≡◌, ℕ, ◌*◌, ◌<◌, ◌≤◌, ◌�
 use Rattle.std.proofs.lemmas.List.FromFn.{fill_by_all}
 use Rattle.std.proofs.lemmas.List.{get_or-take, length-take-le}
 use Rattle.clearance.specs.Text.{cell, digit}
-use Rattle.clearance.proofs.Squares.{square}
+use Rattle.clearance.specs.Squares.{square}
 use Rattle.clearance.proofs.text.cells_of.Goals as goal
 
 pub bounds-all-k : goal.bounds-all-k

@@ -1,6 +1,6 @@
 use Rattle.std.proofs.Common.{arith}
-use Rattle.clearance.proofs.Squares.{square, cell_below}
-use Rattle.clearance.proofs.Tabled.{table_meet}
+use Rattle.clearance.specs.Squares.{square, cell_below}
+use Rattle.clearance.specs.Tabled.{table_meet}
 use Rattle.clearance.proofs.table.Table.greatest.Goals as goal
 
 pub bounds-self-a : goal.bounds-self-a

@@ -1,8 +1,8 @@
 use Rattle.std.proofs.Common.{◌≡◌, ℕ, ◌*◌, List, take, refl, subst, arith}
 use mathlib.Core.Path.{subst⁻¹}
 use Rattle.clearance.specs.Tables.{OrderTable, WorkedOut}
-use Rattle.clearance.proofs.Squares.{square}
-use Rattle.clearance.proofs.Tabled.{turn_back, worked_out}
+use Rattle.clearance.specs.Squares.{square}
+use Rattle.clearance.specs.Tabled.{turn_back, worked_out}
 use Rattle.clearance.proofs.table.Table.new.Goals as goal
 use Rattle.clearance.proofs.table.Table.new.Goals.{In-Some-joins_of, After-padded-bytes}
 
@@ -27,7 +27,7 @@ kept c = subst (λ (k : ℕ). take k c.padded-bytes.result ≡ c.args.bytes.now)
 pub invariant_of-result : goal.invariant_of-result
 invariant_of-result c =
     let fits = subst⁻¹ (λ (xs : List ℕ). WorkedOut c.args.n xs c.in-Some.joins c.in-Some-joins_of.meets) (kept c) (whole c) in
-    (c.if-n-lt1.false, (c.if-n-gt-MOST_ROWS.false, (∣ fits ∣₁, tt)))
+    record { some = c.if-n-lt1.false; most = c.if-n-gt-MOST_ROWS.false; sound = ∣ fits ∣₁ }
 
 pub returns : goal.returns
 returns c = let d = (goal.at.returns c).After-padded-bytes in ((c.if-n-lt1.false, c.if-n-gt-MOST_ROWS.false), (whole d).sound, refl, kept d)

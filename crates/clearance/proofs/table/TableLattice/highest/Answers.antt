@@ -1,4 +1,4 @@
-use Rattle.clearance.proofs.Tabled.{table_order, next_highest}
+use Rattle.clearance.specs.Tabled.{table_order, next_highest}
 use Rattle.clearance.proofs.table.TableLattice.highest.Goals as goal
 
 pub loop-t-preserved : goal.loop-t-preserved

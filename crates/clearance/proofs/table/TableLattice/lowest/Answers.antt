@@ -1,4 +1,4 @@
-use Rattle.clearance.proofs.Tabled.{table_order, next_lowest}
+use Rattle.clearance.specs.Tabled.{table_order, next_lowest}
 use Rattle.clearance.proofs.table.TableLattice.lowest.Goals as goal
 
 pub loop-t-preserved : goal.loop-t-preserved

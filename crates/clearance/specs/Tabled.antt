@@ -7,7 +7,7 @@ use Rattle.std.proofs.lemmas.Nat.{div-mul-add, mod-mul-add}
 use Rattle.lattice.specs.Meaning.{Meaning, Below, Ordered, Laws, LeastAbove, GreatestBelow, HasJoins, HasMeets, Lowest, Highest}
 use Rattle.lattice.specs.Kinds.{table, reversed}
 use Rattle.clearance.specs.Tables.{OrderTable, WorkedOut, ListsJoins, ListsMeets, table_levels}
-use Rattle.clearance.proofs.Squares.{cell_below}
+use Rattle.clearance.specs.Squares.{cell_below}
 
 -- what is least above in a relation turned round is greatest below
 pub turn : {m : Meaning} (a b r : ℕ) → LeastAbove (reversed m) a b r → GreatestBelow m a b r
