@@ -4,7 +4,7 @@
 Process start is left out: of reading, each file is read many times by one process and a run with few readings is taken away;
 of judging, the time for the empty design is.
 
-    rt check cases judge && tools/benchmark.py
+    for p in cases judge; do (cd crates/$p && rt run < stdin > /dev/null); done; tools/benchmark.py
 """
 import pathlib
 import subprocess
@@ -23,7 +23,7 @@ def seconds(program, text, arguments=(), runs=3):
     best = float("inf")
     for _ in range(runs):
         start = time.perf_counter()
-        subprocess.run([ROOT / "target" / "bin" / program, *arguments], input=text, capture_output=True, check=True)
+        subprocess.run([ROOT / "crates" / program / "out" / program, *arguments], input=text, capture_output=True, check=True)
         best = min(best, time.perf_counter() - start)
     return best
 

@@ -1,7 +1,7 @@
 #!/usr/bin/env python3
 """Judges random designs, and mutations of them, with the program `judge` and with tools/model.py, and tells every difference.
 
-    rt check judge && tools/compare_judge.py [--count N] [--seed N]
+    (cd crates/judge && rt run < stdin > /dev/null); tools/compare_judge.py [--count N] [--seed N]
 """
 import argparse
 import pathlib
@@ -12,7 +12,7 @@ import lattices
 import model
 from random_designs import made
 
-PROGRAM = pathlib.Path(__file__).resolve().parent.parent / "target" / "bin" / "judge"
+PROGRAM = pathlib.Path(__file__).resolve().parent.parent / "crates" / "judge" / "out" / "judge"
 DIAMOND = "1111010100110001"
 
 # Each lattice as tools/lattices.py names it, and as the program's arguments do; TABLE stands for a file with the diamond.

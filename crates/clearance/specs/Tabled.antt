@@ -1,10 +1,10 @@
 -- A sound table keeps the laws.
-use Rattle.std.proofs.Common.{◌≡◌, ℕ, zero, suc, ◌+◌, ◌*◌, ◌<◌, ◌≤◌, true, List, get_or, sym, subst, arith, below_more}
+use Rattle.std.proofs.Common.{ℕ, zero, suc, ◌+◌, ◌*◌, ◌<◌, ◌≤◌, List, get_or, arith, below_more}
 use mathlib.Core.Bool.{Bool-set}
 use mathlib.Core.Logic.{∥∥₁_elim}
 use native.Mathlib.Nat.{ℕ_set}
 use Rattle.std.proofs.lemmas.Nat.{div-mul-add, mod-mul-add}
-use Rattle.lattice.specs.Meaning.{Meaning, Below, Ordered, Laws, LeastAbove, GreatestBelow, HasJoins, HasMeets, Lowest, Highest}
+use Rattle.lattice.specs.Meaning.{Meaning, Below, Ordered, Laws, LeastAbove, GreatestBelow, HasJoins, HasMeets}
 use Rattle.lattice.specs.Kinds.{table, reversed}
 use Rattle.clearance.specs.Tables.{OrderTable, WorkedOut, ListsJoins, ListsMeets, table_levels}
 use Rattle.clearance.specs.Squares.{cell_below}

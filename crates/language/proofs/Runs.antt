@@ -4,7 +4,7 @@ use Rattle.std.proofs.lemmas.Bool.{true≢false, both_ways, ltb-true, lt-ltb}
 use Rattle.refusal.specs.declared.Refusal.{Refusal}
 use Rattle.refusal.specs.declared.Refusal.TheVariants.{NotAPort, ValueTooWide, NotAVariable, NotAWatcher, NoValue, Hidden}
 use Rattle.lattice.specs.Meaning.{Meaning, Below, Laws}
-use Rattle.language.specs.Syntax.{Design, Kind, port, register, wire, var, count}
+use Rattle.language.specs.Syntax.{Design, Kind, port, register, wire, var}
 use Rattle.language.specs.Machine.{Valuation, put, after, values, level, is_port, clear, opening, Call, drive, clock, reset, read, require, accepts, step, run, gets, answer, inside, held}
 use Rattle.language.specs.Form.{Formed}
 use Rattle.language.specs.Typing.{Fits, Typed}

@@ -1,7 +1,7 @@
 -- Containment of bits, a ∧ b ≡ a, is an order in which `or` is the join and `and` the meet; and it is containment of owners.
-use Rattle.std.proofs.Common.{◌≡◌, ℕ, ◌+◌, ◌*◌, ◌/◌, ◌%◌, ◌^◌, ◌<◌, ◌≤◌, min, max, ◌⊎◌, sym, refl, ap, ◌∙◌, inl, inr, ⊎_elim, arith}
+use Rattle.std.proofs.Common.{◌≡◌, ℕ, ◌+◌, ◌/◌, ◌%◌, ◌^◌, ◌<◌, ◌≤◌, min, max, ◌⊎◌, sym, refl, ap, ◌∙◌, inl, inr, ⊎_elim, arith}
 use lib.Arith.{bin_ind}
-use lib.Bits.{bit_and, bit_or, and_step, or_step, and_comm, or_comm, and_self, and_le_r}
+use lib.Bits.{bit_and, bit_or, and_step, or_step, and_comm, or_comm, and_le_r}
 use Rattle.std.proofs.lemmas.Nat.{and_shr, shr-shr, mod_below}
 use Rattle.std.proofs.lemmas.Bool.{cases_eq}
 use Rattle.lattice.specs.Kinds.{owner}

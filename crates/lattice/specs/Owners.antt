@@ -1,5 +1,5 @@
 -- The sets of k owners keep the laws, and what their join and meet are.
-use Rattle.std.proofs.Common.{◌≡◌, ℕ, ◌-◌, ◌^◌, ◌<◌, ◌≤◌, Bool, true, false, ◌&&◌, eqb, ltb, Decides, sym, refl, ap, ◌∙◌, lt_of_le_of_lt, mod-eq_of_lt, arith, pow_pos, pow_mono}
+use Rattle.std.proofs.Common.{◌≡◌, ℕ, ◌-◌, ◌^◌, ◌<◌, ◌≤◌, true, Decides, refl, ◌∙◌, lt_of_le_of_lt, mod-eq_of_lt, pow_pos, pow_mono}
 use lib.Pow.{ones_lt}
 use lib.Bits.{bit_and, bit_or, and_self, or_lt, and_le_l, and_mask}
 use Rattle.std.proofs.lemmas.Bool.{eqb-true, ltb-true, eq-eqb, lt-ltb, and_parts, and_from}

@@ -1,5 +1,5 @@
 -- Every expression that a file describes has a width of 1 to 32, unless it is nothing.
-use Rattle.std.proofs.Common.{◌≡◌, ℕ, ◌<◌, ◌≤◌, Bool, true, false, cond, ◌||◌, eqb, ltb, List, get_or, sym, refl, ap, ◌∙◌, subst, arith}
+use Rattle.std.proofs.Common.{◌≡◌, ℕ, ◌≤◌, Bool, true, false, cond, ◌||◌, eqb, ltb, List, get_or, refl, subst, arith}
 use Rattle.std.proofs.lemmas.Bool.{or_parts, eqb-false, ltb-false}
 use Rattle.refusal.specs.declared.Section.TheVariants.{Expressions}
 use Rattle.language.specs.Syntax.{Expr, constant, variable, complement, binary, shift_left, shift-right, part, above, choose, width}

@@ -1,5 +1,5 @@
 -- Variables and their labels, as the code names them.
-use Rattle.std.specs.Prelude.{ℕ, Some, None, Option}
+use Rattle.std.specs.Prelude.{Some, None, Option}
 use Rattle.language.specs.Syntax as tree
 use Rattle.language.specs.Syntax.{fixed, looked_up, nothing}
 use Rattle.records.specs.declared.cells.Variable.{Variable}

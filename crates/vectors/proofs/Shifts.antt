@@ -1,5 +1,5 @@
 -- Shifts by more bits than a number has.
-use Rattle.std.proofs.Common.{◌≡◌, ℕ, ◌-◌, ◌*◌, ◌/◌, ◌%◌, ◌^◌, ◌<◌, ◌≤◌, sym, ap, ◌∙◌, lt_of_lt_of_le, mul_assoc, sub-add_cancel, pow_mono, pow-add}
+use Rattle.std.proofs.Common.{◌≡◌, ℕ, ◌-◌, ◌*◌, ◌%◌, ◌^◌, ◌<◌, ◌≤◌, sym, ap, ◌∙◌, lt_of_lt_of_le, mul_assoc, sub-add_cancel, pow_mono, pow-add}
 use native.Mathlib.Nat.{div-eq_of_lt, mul-mod_left}
 use Rattle.language.specs.Vectors.{shifted_left, shifted_right}
 

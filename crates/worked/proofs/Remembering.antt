@@ -2,7 +2,7 @@
 use Rattle.std.proofs.Common.{◌≡◌, ℕ, zero, suc, ◌^◌, ◌<◌, true, ltb, [], ◌∷◌, sym, refl, ap, ◌∙◌, subst, inl, arith, lit<, lit≤}
 use Rattle.std.proofs.lemmas.Bool.{ltb-true, true≢false, false≢true}
 use Rattle.lattice.specs.Meaning.{Below, Joined}
-use Rattle.language.specs.Syntax.{Cmd, constant, variable, fixed, looked_up, var, entry}
+use Rattle.language.specs.Syntax.{Cmd, constant, variable, looked_up, var, entry}
 use Rattle.language.specs.Machine.{inside, held}
 use Rattle.language.specs.Form.{Every, Selects, Formed}
 use Rattle.language.specs.Typing.{Fits, Allowed, Flows, Stays, Reaches, TableLevels, LabelLevel, Anything, Typed}

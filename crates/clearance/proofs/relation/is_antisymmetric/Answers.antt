@@ -1,4 +1,4 @@
-use Rattle.std.proofs.Common.{◌≡◌, ℕ, true, subst, arith, below_more}
+use Rattle.std.proofs.Common.{◌≡◌, ℕ, true, arith, below_more}
 use Rattle.clearance.proofs.relation.is_antisymmetric.Goals as goal
 
 pub loop-a-preserved : goal.loop-a-preserved

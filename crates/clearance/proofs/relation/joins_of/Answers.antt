@@ -1,4 +1,4 @@
-use Rattle.std.proofs.Common.{◌≡◌, ℕ, ◌*◌, ◌/◌, ◌%◌, ◌<◌, ◌≤◌, ◌≢◌, length, get_or, set, sym, subst, arith, length-set, get_or-set_other, get_or-set_same, below_more}
+use Rattle.std.proofs.Common.{ℕ, ◌*◌, ◌/◌, ◌%◌, ◌<◌, ◌≢◌, length, get_or, set, arith, length-set, get_or-set_other, get_or-set_same, below_more}
 use Rattle.lattice.specs.Meaning.{LeastAbove}
 use Rattle.clearance.specs.Squares.{square, row_below, column_below}
 use Rattle.clearance.proofs.relation.joins_of.Goals as goal

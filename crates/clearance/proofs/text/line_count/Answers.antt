@@ -1,4 +1,4 @@
-use Rattle.std.proofs.Common.{◌≡◌, ℕ, ◌+◌, ◌≤◌, Bool, true, false, cond, sym, refl, ap, ◌∙◌, add-one, arith}
+use Rattle.std.proofs.Common.{◌≡◌, ℕ, ◌+◌, Bool, true, false, cond, add-one, arith}
 use Rattle.clearance.specs.Text.{tally, begins}
 use Rattle.clearance.proofs.text.line_count.Goals as goal
 use Rattle.clearance.proofs.text.line_count.Goals.{then-begins_line, else-begins_line}

@@ -1,4 +1,4 @@
-use Rattle.std.proofs.Common.{◌≡◌, ◌<◌, ◌≤◌, ap, ◌∙◌, arith}
+use Rattle.std.proofs.Common.{◌<◌, ap, ◌∙◌, arith}
 use Rattle.refusal.specs.declared.Section.TheVariants.{Blocks}
 use Rattle.language.specs.Syntax.{together}
 use Rattle.language.specs.Machine.{after}

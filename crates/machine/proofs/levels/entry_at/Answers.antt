@@ -1,4 +1,4 @@
-use Rattle.std.proofs.Common.{◌≡◌, ◌*◌, ◌<◌, ◌≤◌, sym, ap, ◌∙◌, arith}
+use Rattle.std.proofs.Common.{◌*◌, ◌<◌, ◌≤◌, sym, ap, ◌∙◌, arith}
 use Rattle.refusal.specs.declared.Section.TheVariants.{Tables}
 use Rattle.records.specs.Bytes.{field_of}
 use Rattle.records.specs.Layouts.{count_in}

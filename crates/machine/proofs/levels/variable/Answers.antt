@@ -1,4 +1,4 @@
-use Rattle.std.proofs.Common.{◌≡◌, ◌<◌, ◌≤◌, sym, ap, ◌∙◌, arith}
+use Rattle.std.proofs.Common.{◌<◌, ◌≤◌, sym, ap, ◌∙◌, arith}
 use Rattle.refusal.specs.declared.Section.TheVariants.{Variables}
 use Rattle.records.specs.Layouts.{count_in}
 use Rattle.records.specs.Trees.{variable_of}

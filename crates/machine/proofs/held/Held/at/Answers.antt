@@ -1,4 +1,4 @@
-use Rattle.std.proofs.Common.{sym, ◌∙◌, arith}
+use Rattle.std.proofs.Common.{sym}
 use Rattle.machine.proofs.Values.{low, past}
 use Rattle.machine.proofs.held.Held.at.Goals as goal
 

@@ -1,7 +1,6 @@
 use Rattle.std.proofs.Common.{◌≡◌, ◌<◌, ◌&&◌, ◌||◌, sym, ap, ◌∙◌, arith}
 use Rattle.std.proofs.lemmas.Bool.{or_from}
 use Rattle.refusal.specs.declared.Section.TheVariants.{Blocks}
-use Rattle.language.specs.Form.{assigns}
 use Rattle.records.specs.Layouts.{count_in}
 use Rattle.survey.specs.Sums.{any}
 use Rattle.survey.specs.Sets.{follows_in}
