@@ -1,9 +1,9 @@
 //! Stored cases, one to a line, each with its answer.
-#![tactic(auto)]
-
 //! `file HEX` is a file to read, `put AT HEX ..` the last such file with other bytes at some places, `cut LENGTH` its first bytes.
 //! `judge LATTICE HEX` is a design to judge.
 //! `run HEX CALL ..` is a session on a design under the chain of 2, with calls `drive:V:N`, `clock`, `reset` and `read:W:V`.
+#![tactic(auto)]
+
 mod hex;
 mod judging;
 mod reading;

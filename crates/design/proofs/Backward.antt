@@ -5,7 +5,7 @@ use Rattle.refusal.specs.declared.Section.{Section}
 use Rattle.refusal.specs.declared.Section.TheVariants.{Tables, Variables, Blocks, Commands, Expressions}
 use Rattle.lattice.specs.Meaning.{All}
 use Rattle.lattice.proofs.Lists.{all_left, all_right, all_weaker}
-use Rattle.language.specs.Syntax.{Expr, Cmd, Design, constant, variable, complement, binary, shift_left, shift-right, part, above, choose, idle, seq, choice, assign, register, looked_up, var, vars}
+use Rattle.language.specs.Syntax.{Expr, Cmd, Design, constant, variable, complement, binary, shift_left, shift_right, part, above, choose, idle, seq, choice, assign, register, looked_up, var, vars}
 use Rattle.language.specs.Machine.{inside, held, is_wire_kind}
 use Rattle.language.specs.Form.{Way, Each, Reads, Settles, Formed, assigns, always}
 use Rattle.records.specs.declared.layout.Layout.{Layout}
@@ -48,7 +48,7 @@ module _ (p : ℕ → Bool) (k : ℕ) where
   none_reads (complement w a) h = none_reads a h
   none_reads (binary w o a b) h = or_from (reads p a k) (reads p b k) (none_reads a (all_left _ (vars a) (vars b) h)) (none_reads b (all_right _ (vars a) (vars b) h))
   none_reads (shift_left w a n) h = none_reads a h
-  none_reads (shift-right w a n) h = none_reads a h
+  none_reads (shift_right w a n) h = none_reads a h
   none_reads (part w n a) h = none_reads a h
   none_reads (above w a b) h = or_from (reads p a k) (reads p b k) (none_reads a (all_left _ (vars a) (vars b) h)) (none_reads b (all_right _ (vars a) (vars b) h))
   none_reads (choose w c a b) h =
@@ -140,10 +140,10 @@ module _ (f : List ℕ) (l : Layout) (r : Right f l) where
       in_settled : (b : ℕ) → b < blocks → settled_at f l b ≡ true → writes_wrong f l n b ≡ false
       in_settled b hb s =
           let x = settled_stands f l fm b hb s in
-          let wire-here : (u : ℕ) (e : Expr) → Settles d x.known (body_at f l b) u e → wrong_target f l true u ≡ false = λ u e z.
+          let wire_here : (u : ℕ) (e : Expr) → Settles d x.known (body_at f l b) u e → wrong_target f l true u ≡ false = λ u e z.
           not_from_true (is_wire f l u) (is_wire_at u (inside_from f l u z.target) (no_if (held d u) (λ y. true≢false (sym (x.inv.all u y) ∙ z.first)))) in
           subst (λ t. writes (wrong_target f l t) (body_at f l b) n ≡ false) (sym s)
-          (none_writes (wrong_target f l true) n (Reads d x.known 1) [] (body_at f l b) (each_map (λ e y. y) (λ q u e z. wire-here u e z) [] (body_at f l b) x.each))
+          (none_writes (wrong_target f l true) n (Reads d x.known 1) [] (body_at f l b) (each_map (λ e y. y) (λ q u e z. wire_here u e z) [] (body_at f l b) x.each))
 
       in_clocked : (b : ℕ) → b < blocks → settled_at f l b ≡ false → writes_wrong f l n b ≡ false
       in_clocked b hb s =

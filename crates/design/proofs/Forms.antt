@@ -105,7 +105,7 @@ module _ (f : List ℕ) (l : Layout) (q : Quiet f l) where
         ⊎_elim
         (λ same. inl (not_differ s u same))
         (λ rest. inr (is s ∙ ⊎_elim
-        (λ held-here. or_left (held d s) (assigns (blocks_to f l b) s) (held_at f l s c.names held-here))
+        (λ held_here. or_left (held d s) (assigns (blocks_to f l b) s) (held_at f l s c.names held_here))
         (λ after.
         let r = any_found (follows_in f l u s) blocks (not_not _ after) in
         let both = and_parts (assigns (body_at f l r.0) u) (assigns (blocks_to f l r.0) s) r.2 in
@@ -168,7 +168,7 @@ module _ (f : List ℕ) (l : Layout) (q : Quiet f l) where
   -- ---- clocked blocks
 
   clocks : (b : ℕ) → settled_at f l b ≡ false → (u e : ℕ) → u < count_in l Variables → Reads d (inside d) (var d u).width (expr_at f l e) → wrong_target f l (settled_at f l b) u ≡ false → Unit {0} → Clocks d u (expr_at f l e)
-  clocks b c u e hu src right any-u = record { source = src; target = ap (λ x. x.kind) (var_at f l u hu) ∙ ap kind_of (clocked_kind b u c right) }
+  clocks b c u e hu src right any_u = record { source = src; target = ap (λ x. x.kind) (var_at f l u hu) ∙ ap kind_of (clocked_kind b u c right) }
 
   clocked_body : (b : ℕ) → b < blocks → settled_at f l b ≡ false → Each (Reads d (inside d) 1) (λ path u e. Clocks d u e) [] (body_at f l b)
   clocked_body b h c =

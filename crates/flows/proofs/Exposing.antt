@@ -83,7 +83,7 @@ filled_still p (any_of t w) ρ x y o h = h
 
 -- base is filled in at p, and then at q
 module _ (m : Meaning) (laws : Laws m) (d : Design) (most : count d ≤ 128) (sets : Sets) (flow : ℕ → Bool) (u : ℕ) (e : Shape)
-    (f : Offence) (o : Offends m d sets flow (target_place d u e) f) (p q : Place) (is-p : p ≡ label_place (var d f.variable).label) (is-q : q ≡ target_place d u e)
+    (f : Offence) (o : Offends m d sets flow (target_place d u e) f) (p q : Place) (is_p : p ≡ label_place (var d f.variable).label) (is_q : q ≡ target_place d u e)
     (base one two : Valuation) (suited : Possible d sets → Suited d sets base)
     (first : Looks p → (k : ℕ) → one k ≡ filled p base f.x k) (second : Looks q → (k : ℕ) → two k ≡ filled q one f.y k) where
   pub exposed : (a b : ℕ) → JoinBelow m d two flow (count d) a → b ≡ level_at d q f.y → Exposes m d sets flow u e a b
@@ -91,22 +91,22 @@ module _ (m : Meaning) (laws : Laws m) (d : Design) (most : count d ≤ 128) (se
       let v = f.variable in
       let x = f.x in
       let y = f.y in
-      let tries-p : Tries d sets p x = subst (λ z. Tries d sets z x) (sym is-p) o.clash.first in
-      let tries-q : Tries d sets q y = subst (λ z. Tries d sets z y) (sym is-q) o.clash.second in
-      let together : One p q x y = subst (λ z. One z q x y) (sym is-p) (subst (λ z. One (label_place (var d v).label) z x y) (sym is-q) o.clash.one) in
-      let same-one = first (looks d sets most p x tries-p) in
-      let same-two = second (looks d sets most q y tries-q) in
-      let suited-one : Suited d sets one = same_suited d sets (filled p base x) one same-one (filled_suited d sets p base x tries-p (suited o.possible)) in
-      let suited-two : Suited d sets two = same_suited d sets (filled q one y) two same-two (filled_suited d sets q one y tries-q suited-one) in
-      let stands_one : Stands one p x = same_stands d sets (filled p base x) one same-one p x (filled_stands p base x) in
-      let stands-p : Stands two p x = same_stands d sets (filled q one y) two same-two p x (filled_still p q one x y together stands_one) in
-      let stands-q : Stands two q y = same_stands d sets (filled q one y) two same-two q y (filled_stands q one y) in
-      let c = some_coming d sets two u y e o.clash.second (subst (λ z. Stands two z y) is-q stands-q) in
-      let here : level d two v ≡ level_at d (label_place (var d v).label) x = stands_level d two (var d v).label x (subst (λ z. Stands two z x) is-p stands-p) in
-      let goal : b ≡ level_at d (target_place d u e) y = is_b ∙ ap (λ z. level_at d z y) is-q in
+      let tries_p : Tries d sets p x = subst (λ z. Tries d sets z x) (sym is_p) o.clash.first in
+      let tries_q : Tries d sets q y = subst (λ z. Tries d sets z y) (sym is_q) o.clash.second in
+      let together : One p q x y = subst (λ z. One z q x y) (sym is_p) (subst (λ z. One (label_place (var d v).label) z x y) (sym is_q) o.clash.one) in
+      let same_one = first (looks d sets most p x tries_p) in
+      let same_two = second (looks d sets most q y tries_q) in
+      let suited_one : Suited d sets one = same_suited d sets (filled p base x) one same_one (filled_suited d sets p base x tries_p (suited o.possible)) in
+      let suited_two : Suited d sets two = same_suited d sets (filled q one y) two same_two (filled_suited d sets q one y tries_q suited_one) in
+      let stands_one : Stands one p x = same_stands d sets (filled p base x) one same_one p x (filled_stands p base x) in
+      let stands_p : Stands two p x = same_stands d sets (filled q one y) two same_two p x (filled_still p q one x y together stands_one) in
+      let stands_q : Stands two q y = same_stands d sets (filled q one y) two same_two q y (filled_stands q one y) in
+      let c = some_coming d sets two u y e o.clash.second (subst (λ z. Stands two z y) is_q stands_q) in
+      let here : level d two v ≡ level_at d (label_place (var d v).label) x = stands_level d two (var d v).label x (subst (λ z. Stands two z x) is_p stands_p) in
+      let goal : b ≡ level_at d (target_place d u e) y = is_b ∙ ap (λ z. level_at d z y) is_q in
       record {
         values = two;
-        suited = suited-two;
+        suited = suited_two;
         coming = c.0;
         comes = c.1;
         join = j;

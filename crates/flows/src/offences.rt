@@ -1,5 +1,5 @@
 //! One variable of a flow against a target, at the values that are left to them.
-ghost use Rattle.std.specs.Prelude.{ℕ, ◌<◌, MatchOption};
+ghost use Rattle.std.specs.Prelude.{◌≡◌, ℕ, MatchOption, slice_index};
 ghost use Rattle.lattice.specs.Meaning.{Below};
 ghost use Rattle.language.specs.Syntax.{Design};
 ghost use Rattle.language.specs.Finite.{Sets, Tries, One, level_at, Under, AllUnder};
@@ -23,15 +23,21 @@ pub struct Offence {
     pub y: u32,
 }
 
+// The level at the value `x`; 0 at a value that is never tried.
+fn level_tried(p: &Trials, x: u32) -> u32
+    ensures { result ≡ slice_index p.now.levels x }
+{
+    if x < 16 { p.levels[x as usize] } else { 0 }
+}
+
 // A value `y` to try at `q` at which the level at `p`, where the value is `x`, is not at or below the level at `q`.
 fn clash_at<L: Lattice>(lattice: &L, p: &Trials, x: u32, q: &Trials) -> Option<u32>
-    requires { x < 16 }
     ensures { (d : Design) (sets : Sets) → Tabled d sets p.now → Tabled d sets q.now → Tries d sets (place_of p.now.origin) x → MatchOption result
         ((y : ℕ) → Tries d sets (place_of q.now.origin) y → One (place_of p.now.origin) (place_of q.now.origin) x y
         → Below (L.meaning lattice.now) (level_at d (place_of p.now.origin) x) (level_at d (place_of q.now.origin) y))
         (λ y. Clash (L.meaning lattice.now) d sets (place_of p.now.origin) (place_of q.now.origin) x y) }
 {
-    let from = p.levels[x as usize];
+    let from = level_tried(p, x);
     for y in 0..16 {
         if q.tried[y as usize] {
             if are_one(p.origin, q.origin, x, y) {

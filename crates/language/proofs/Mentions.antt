@@ -1,7 +1,7 @@
 -- Which variables an expression and a path read.
 use Rattle.std.proofs.Common.{◌≡◌, ℕ, Bool, true, ◌||◌, List, [], ◌∷◌, ◌++◌, sym, inl, inr, ⊎_elim}
 use Rattle.std.proofs.lemmas.Bool.{eq-eqb, eqb-true, true≢false, or_cases, or_left, or_right}
-use Rattle.language.specs.Syntax.{Expr, constant, variable, complement, binary, shift_left, shift-right, part, above, choose, vars}
+use Rattle.language.specs.Syntax.{Expr, constant, variable, complement, binary, shift_left, shift_right, part, above, choose, vars}
 use Rattle.language.specs.Form.{Way}
 use Rattle.language.specs.Typing.{sources, around}
 use Rattle.language.specs.Finite.{mentions, among}
@@ -19,7 +19,7 @@ mention_mem (variable w u place) v h = inl (eqb-true u v h)
 mention_mem (complement w a) v h = mention_mem a v h
 mention_mem (binary w o a b) v h = both v (mentions a v) (mentions b v) (vars a) (vars b) (mention_mem a v) (mention_mem b v) h
 mention_mem (shift_left w a n) v h = mention_mem a v h
-mention_mem (shift-right w a n) v h = mention_mem a v h
+mention_mem (shift_right w a n) v h = mention_mem a v h
 mention_mem (part w n a) v h = mention_mem a v h
 mention_mem (above w a b) v h = both v (mentions a v) (mentions b v) (vars a) (vars b) (mention_mem a v) (mention_mem b v) h
 mention_mem (choose w c a b) v h =
@@ -33,7 +33,7 @@ mem_mention (variable w u place) v (inr h) = absurd h
 mem_mention (complement w a) v h = mem_mention a v h
 mem_mention (binary w o a b) v h = back v (mentions a v) (mentions b v) (vars a) (vars b) (mem_mention a v) (mem_mention b v) h
 mem_mention (shift_left w a n) v h = mem_mention a v h
-mem_mention (shift-right w a n) v h = mem_mention a v h
+mem_mention (shift_right w a n) v h = mem_mention a v h
 mem_mention (part w n a) v h = mem_mention a v h
 mem_mention (above w a b) v h = back v (mentions a v) (mentions b v) (vars a) (vars b) (mem_mention a v) (mem_mention b v) h
 mem_mention (choose w c a b) v h =

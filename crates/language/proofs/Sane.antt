@@ -3,7 +3,7 @@ use Rattle.std.proofs.Common.{◌≡◌, ℕ, ◌≤◌, Bool, true, false, not,
 use Rattle.std.proofs.lemmas.Bool.{cases_lt, lt-ltb, both_ways, or_cases}
 use Rattle.std.proofs.lemmas.List.{get_or_past}
 use Rattle.lattice.specs.Meaning.{All}
-use Rattle.language.specs.Syntax.{Expr, Cmd, Label, Design, Variable, constant, variable, complement, binary, shift_left, shift-right, part, above, choose, idle, seq, choice, assign, fixed, looked_up, nothing, count, var, vars}
+use Rattle.language.specs.Syntax.{Expr, Cmd, Label, Design, Variable, constant, variable, complement, binary, shift_left, shift_right, part, above, choose, idle, seq, choice, assign, fixed, looked_up, nothing, count, var, vars}
 use Rattle.language.specs.Machine.{inside, held, is_wire_kind}
 use Rattle.language.specs.Form.{Way, Each, Every, assigns, Reads, Settles, Settling, Clocks, Formed}
 use Rattle.language.specs.Typing.{Shape, number, single, other, shape, sources, around}
@@ -66,7 +66,7 @@ module _ (d : Design) where
   suits u (complement w a) r = tt
   suits u (binary w o a b) r = tt
   suits u (shift_left w a n) r = tt
-  suits u (shift-right w a n) r = tt
+  suits u (shift_right w a n) r = tt
   suits u (part w n a) r = tt
   suits u (above w a b) r = tt
   suits u (choose w c a b) r = tt

@@ -5,7 +5,7 @@ use lib.Bits.{bit_and, bit_or, bit_xor, and_lt, or_lt, xor_lt}
 use lib.Pow.{ones_sub-lt, shr_le}
 use Rattle.std.proofs.lemmas.Bool.{eq-eqb, ne_eqb, eqb-true, cases_eq, cond_both, and_parts, and_from, and_cases, or_cases, or_parts, or_left, or_right}
 use Rattle.lattice.specs.Meaning.{All}
-use Rattle.language.specs.Syntax.{Op, Expr, Design, and, or, xor, sum, difference, equals, less, constant, variable, complement, binary, shift_left, shift-right, part, above, choose, width, vars}
+use Rattle.language.specs.Syntax.{Op, Expr, Design, and, or, xor, sum, difference, equals, less, constant, variable, complement, binary, shift_left, shift_right, part, above, choose, width, vars}
 use Rattle.language.specs.Vectors.{bit, complemented, operated, shifted_left, shifted_right, part_from, joined_above, chosen}
 use Rattle.language.specs.Machine.{Valuation, eval}
 use Rattle.language.specs.Form.{Sized, of_op}
@@ -29,7 +29,7 @@ module _ (ρ σ : Valuation) where
   eval_agree (complement w a) h = ap (complemented w) (eval_agree a h)
   eval_agree (binary w o a b) h = ap₂ (operated w o) (eval_agree a (left_part (vars a) (vars b) h)) (eval_agree b (right_part (vars a) (vars b) h))
   eval_agree (shift_left w a k) h = ap (λ x. shifted_left w x k) (eval_agree a h)
-  eval_agree (shift-right w a k) h = ap (λ x. shifted_right x k) (eval_agree a h)
+  eval_agree (shift_right w a k) h = ap (λ x. shifted_right x k) (eval_agree a h)
   eval_agree (part w k a) h = ap (part_from w k) (eval_agree a h)
   eval_agree (above w a b) h = ap₂ (joined_above w (width b)) (eval_agree a (left_part (vars a) (vars b) h)) (eval_agree b (right_part (vars a) (vars b) h))
   eval_agree (choose w c a b) h =
@@ -95,7 +95,7 @@ module _ (d : Design) (ρ : Valuation) (fits : Fits d ρ) where
   eval_fits (binary w o a b) h =
       operated_fits o w (width a) (eval ρ a) (eval ρ b) h.3 (eval_fits a h.0) (subst (λ k. eval ρ b < 2 ^ k) (sym h.2) (eval_fits b h.1))
   eval_fits (shift_left w a k) h = mod-lt (eval ρ a * 2 ^ k) (pow_pos w)
-  eval_fits (shift-right w a k) h = lt_of_le_of_lt (shr_le (eval ρ a) k) (subst (λ n. eval ρ a < 2 ^ n) h.1 (eval_fits a h.0))
+  eval_fits (shift_right w a k) h = lt_of_le_of_lt (shr_le (eval ρ a) k) (subst (λ n. eval ρ a < 2 ^ n) h.1 (eval_fits a h.0))
   eval_fits (part w k a) h = mod-lt (eval ρ a / 2 ^ k) (pow_pos w)
   eval_fits (above w a b) h = mod-lt (eval ρ a * 2 ^ width b + eval ρ b) (pow_pos w)
   eval_fits (choose w c a b) h =
@@ -112,7 +112,7 @@ module _ (d : Design) (ρ : Valuation) (fits : Fits d ρ) where
   coming (complement w' a) w h k = at_width (complement w' a) w h k
   coming (binary w' o a b) w h k = at_width (binary w' o a b) w h k
   coming (shift_left w' a n) w h k = at_width (shift_left w' a n) w h k
-  coming (shift-right w' a n) w h k = at_width (shift-right w' a n) w h k
+  coming (shift_right w' a n) w h k = at_width (shift_right w' a n) w h k
   coming (part w' n a) w h k = at_width (part w' n a) w h k
   coming (above w' a b) w h k = at_width (above w' a b) w h k
   coming (choose w' c a b) w h k = at_width (choose w' c a b) w h k
@@ -159,7 +159,7 @@ module _ (d : Design) (ρ : Valuation) (fits : Fits d ρ) where
   leaves_holds (binary w difference a b) h k way p v = refl
   leaves_holds (binary w less a b) h k way p v = refl
   leaves_holds (shift_left w a n) h k way p v = refl
-  leaves_holds (shift-right w a n) h k way p v = refl
+  leaves_holds (shift_right w a n) h k way p v = refl
   leaves_holds (part w n a) h k way p v = refl
   leaves_holds (above w a b) h k way p v = refl
   leaves_holds (choose w c a b) h k way p v = refl

@@ -1,7 +1,7 @@
 -- The rules as a judge can test them: each variable of a flow against the target, at the few values that matter.
 use Rattle.std.specs.Prelude.{◌≡◌, ℕ, ◌^◌, ◌<◌, ◌≤◌, Bool, true, false, cond, ◌||◌, ◌↔◌, List, [], ◌∷◌, length, ◌==◌}
 use Rattle.lattice.specs.Meaning.{Meaning, Below, Laws}
-use Rattle.language.specs.Syntax.{Expr, Label, Design, constant, variable, complement, binary, shift_left, shift-right, part, above, choose, fixed, looked_up, var, entry, together}
+use Rattle.language.specs.Syntax.{Expr, Label, Design, constant, variable, complement, binary, shift_left, shift_right, part, above, choose, fixed, looked_up, var, entry, together}
 use Rattle.language.specs.Machine.{inside}
 use Rattle.language.specs.Form.{Way, Every, always, Formed}
 use Rattle.language.specs.Typing.{Shape, number, single, other, shape, allows, TableLevels, LabelLevel, Anything, Typed}
@@ -81,7 +81,7 @@ mentions (variable w u k) v = u == v
 mentions (complement w a) v = mentions a v
 mentions (binary w o a b) v = mentions a v || mentions b v
 mentions (shift_left w a n) v = mentions a v
-mentions (shift-right w a n) v = mentions a v
+mentions (shift_right w a n) v = mentions a v
 mentions (part w n a) v = mentions a v
 mentions (above w a b) v = mentions a v || mentions b v
 mentions (choose w c a b) v = mentions c v || (mentions a v || mentions b v)

@@ -7,7 +7,7 @@
 -- 5. A selector is narrow and has a fixed label, unless it is the labelled variable itself; and it is of a fitting kind.
 use Rattle.std.specs.Prelude.{◌≡◌, ℕ, ◌+◌, ◌^◌, ◌<◌, ◌≤◌, Bool, true, false, ◌&&◌, ◌||◌, ◌≢◌, ◌⊎◌, List, [], ◌∷◌, ◌==◌}
 use Rattle.lattice.specs.Meaning.{All}
-use Rattle.language.specs.Syntax.{Op, Expr, Cmd, Design, and, or, xor, sum, difference, equals, less, constant, variable, complement, binary, shift_left, shift-right, part, above, choose, idle, seq, choice, assign, port, register, fixed, looked_up, var, width, vars, together}
+use Rattle.language.specs.Syntax.{Op, Expr, Cmd, Design, and, or, xor, sum, difference, equals, less, constant, variable, complement, binary, shift_left, shift_right, part, above, choose, idle, seq, choice, assign, port, register, fixed, looked_up, var, width, vars, together}
 use Rattle.language.specs.Machine.{inside, held}
 
 -- ---- walks over commands
@@ -65,7 +65,7 @@ Sized d (variable w v k) = w ≡ (var d v).width
 Sized d (complement w a) = Sized d a × (width a ≡ w)
 Sized d (binary w o a b) = Sized d a × Sized d b × (width a ≡ width b) × (w ≡ of_op o (width a))
 Sized d (shift_left w a n) = Sized d a × (width a ≡ w) × (n < w)
-Sized d (shift-right w a n) = Sized d a × (width a ≡ w) × (n < w)
+Sized d (shift_right w a n) = Sized d a × (width a ≡ w) × (n < w)
 Sized d (part w n a) = Sized d a × (n + w ≤ width a)
 Sized d (above w a b) = Sized d a × Sized d b × (w ≡ width a + width b)
 Sized d (choose w c a b) = Sized d c × (width c ≡ 1) × Sized d a × (width a ≡ w) × Sized d b × (width b ≡ w)

@@ -4,7 +4,7 @@ use Rattle.std.specs.Option.{unwrap_or, option_or}
 use Rattle.refusal.specs.declared.Refusal.{Refusal}
 use Rattle.refusal.specs.declared.Refusal.TheVariants.{NotAPort, ValueTooWide, NotAVariable, NotAWatcher, NoValue, Hidden}
 use Rattle.lattice.specs.Meaning.{Meaning}
-use Rattle.language.specs.Syntax.{Expr, Cmd, Kind, Label, Design, constant, variable, complement, binary, shift_left, shift-right, part, above, choose, idle, seq, choice, assign, port, register, wire, fixed, looked_up, count, var, entry, width, together}
+use Rattle.language.specs.Syntax.{Expr, Cmd, Kind, Label, Design, constant, variable, complement, binary, shift_left, shift_right, part, above, choose, idle, seq, choice, assign, port, register, wire, fixed, looked_up, count, var, entry, width, together}
 use Rattle.language.specs.Vectors.{complemented, operated, shifted_left, shifted_right, part_from, joined_above, chosen}
 
 -- a value for each variable
@@ -22,7 +22,7 @@ eval ρ (variable w v k) = ρ v
 eval ρ (complement w a) = complemented w (eval ρ a)
 eval ρ (binary w o a b) = operated w o (eval ρ a) (eval ρ b)
 eval ρ (shift_left w a n) = shifted_left w (eval ρ a) n
-eval ρ (shift-right w a n) = shifted_right (eval ρ a) n
+eval ρ (shift_right w a n) = shifted_right (eval ρ a) n
 eval ρ (part w n a) = part_from w n (eval ρ a)
 eval ρ (above w a b) = joined_above w (width b) (eval ρ a) (eval ρ b)
 eval ρ (choose w c a b) = chosen (eval ρ c) (eval ρ a) (eval ρ b)

@@ -11,7 +11,7 @@ pub data Expr : Type 0 where
   variable : (width v place : ℕ) → Expr
   complement : (width : ℕ) → Expr → Expr
   binary : (width : ℕ) → Op → Expr → Expr → Expr
-  shift_left shift-right : (width : ℕ) → Expr → (by : ℕ) → Expr
+  shift_left shift_right : (width : ℕ) → Expr → (by : ℕ) → Expr
   -- as many bits as the width says, from bit `from` up
   part : (width from : ℕ) → Expr → Expr
   -- the first joined above the second
@@ -67,7 +67,7 @@ width (variable w v k) = w
 width (complement w a) = w
 width (binary w o a b) = w
 width (shift_left w a n) = w
-width (shift-right w a n) = w
+width (shift_right w a n) = w
 width (part w n a) = w
 width (above w a b) = w
 width (choose w c a b) = w
@@ -79,7 +79,7 @@ vars (variable w v k) = v ∷ []
 vars (complement w a) = vars a
 vars (binary w o a b) = vars a ++ vars b
 vars (shift_left w a n) = vars a
-vars (shift-right w a n) = vars a
+vars (shift_right w a n) = vars a
 vars (part w n a) = vars a
 vars (above w a b) = vars a ++ vars b
 vars (choose w c a b) = vars c ++ (vars a ++ vars b)

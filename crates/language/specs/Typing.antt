@@ -2,7 +2,7 @@
 -- Rules 13 and 14 speak of all values that the path to an assignment allows.
 use Rattle.std.specs.Prelude.{◌≡◌, ℕ, ◌^◌, ◌<◌, ◌≤◌, Bool, true, false, cond, not, ◌&&◌, ◌||◌, List, [], ◌∷◌, ◌++◌, map, ◌==◌}
 use Rattle.lattice.specs.Meaning.{Meaning, Below, Joined}
-use Rattle.language.specs.Syntax.{Expr, Design, and, or, xor, sum, difference, equals, less, constant, variable, complement, binary, shift_left, shift-right, part, above, choose, fixed, looked_up, var, entry, vars, together}
+use Rattle.language.specs.Syntax.{Expr, Design, and, or, xor, sum, difference, equals, less, constant, variable, complement, binary, shift_left, shift_right, part, above, choose, fixed, looked_up, var, entry, vars, together}
 use Rattle.language.specs.Machine.{Valuation, put, level, inside}
 use Rattle.language.specs.Form.{Way, Every, always}
 
@@ -20,7 +20,7 @@ shape (variable w v k) = single v
 shape (complement w a) = other
 shape (binary w o a b) = other
 shape (shift_left w a n) = other
-shape (shift-right w a n) = other
+shape (shift_right w a n) = other
 shape (part w n a) = other
 shape (above w a b) = other
 shape (choose w c a b) = other
@@ -54,7 +54,7 @@ leaves (binary w sum a b) way v x = true
 leaves (binary w difference a b) way v x = true
 leaves (binary w less a b) way v x = true
 leaves (shift_left w a n) way v x = true
-leaves (shift-right w a n) way v x = true
+leaves (shift_right w a n) way v x = true
 leaves (part w n a) way v x = true
 leaves (above w a b) way v x = true
 leaves (choose w c a b) way v x = true

@@ -1,7 +1,7 @@
 //! Core SecVerilog on paper: what a design is, what it does, when it is accepted, and what acceptance promises.
+//! Each function stands for a theorem, which its contract names.
 #![tactic(auto)]
 
-//! Each function stands for a theorem, which its contract names.
 ghost use Rattle.language.specs.Guarantee.{Noninterference, Striking, WiresHaveValues};
 ghost use Rattle.language.specs.Finite.{TestsAreExact};
 ghost use Rattle.language.specs.Offences.{OffencesCondemn};

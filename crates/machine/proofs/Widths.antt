@@ -2,7 +2,7 @@
 use Rattle.std.proofs.Common.{◌≡◌, ℕ, ◌≤◌, Bool, true, false, cond, ◌||◌, eqb, ltb, List, get_or, refl, subst, arith}
 use Rattle.std.proofs.lemmas.Bool.{or_parts, eqb-false, ltb-false}
 use Rattle.refusal.specs.declared.Section.TheVariants.{Expressions}
-use Rattle.language.specs.Syntax.{Expr, constant, variable, complement, binary, shift_left, shift-right, part, above, choose, width}
+use Rattle.language.specs.Syntax.{Expr, constant, variable, complement, binary, shift_left, shift_right, part, above, choose, width}
 use Rattle.records.specs.declared.layout.Layout.{Layout}
 use Rattle.records.specs.declared.cells.Operation.{Operation}
 use Rattle.records.specs.declared.cells.Operation.TheVariants as op
@@ -22,7 +22,7 @@ Fit (variable w v k) = Wide w
 Fit (complement w a) = Wide w
 Fit (binary w o a b) = Wide w
 Fit (shift_left w a n) = Wide w
-Fit (shift-right w a n) = Wide w
+Fit (shift_right w a n) = Wide w
 Fit (part w n a) = Wide w
 Fit (above w a b) = Wide w
 Fit (choose w c a b) = Wide w

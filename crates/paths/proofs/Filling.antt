@@ -2,7 +2,7 @@
 use Rattle.std.proofs.Common.{◌≡◌, ℕ, ◌+◌, ◌<◌, ◌≤◌, Bool, true, false, cond, not, ◌&&◌, eqb, ltb, List, length, get_or, set, sym, refl, ap, ◌∙◌, subst, ⊎_elim, arith}
 use Rattle.std.proofs.lemmas.List.{get_or-set_same, get_or-set_other}
 use Rattle.std.proofs.lemmas.Bool.{cases_lt, cases_eq, eq-eqb, ne_eqb, lt-ltb, le-ltb, or_parts, and_from, or_left, cond-false}
-use Rattle.language.specs.Syntax.{Expr, and, or, xor, sum, difference, equals, less, constant, variable, complement, binary, shift_left, shift-right, part, above, choose}
+use Rattle.language.specs.Syntax.{Expr, and, or, xor, sum, difference, equals, less, constant, variable, complement, binary, shift_left, shift_right, part, above, choose}
 use Rattle.language.specs.Typing.{Shape, number, single, other, shape, pins, equates, leaves}
 use Rattle.language.specs.Finite.{mentions}
 use Rattle.paths.specs.Marks.{sets_of, Narrows}
@@ -27,7 +27,7 @@ module _ (v x : ℕ) where
   unread_shape (complement w a) h = tt
   unread_shape (binary w o a b) h = tt
   unread_shape (shift_left w a n) h = tt
-  unread_shape (shift-right w a n) h = tt
+  unread_shape (shift_right w a n) h = tt
   unread_shape (part w n a) h = tt
   unread_shape (above w a b) h = tt
   unread_shape (choose w c a b) h = tt
@@ -62,7 +62,7 @@ module _ (v x : ℕ) where
   unread_leaves (binary w difference a b) way h = refl
   unread_leaves (binary w less a b) way h = refl
   unread_leaves (shift_left w a n) way h = refl
-  unread_leaves (shift-right w a n) way h = refl
+  unread_leaves (shift_right w a n) way h = refl
   unread_leaves (part w n a) way h = refl
   unread_leaves (above w a b) way h = refl
   unread_leaves (choose w c a b) way h = refl

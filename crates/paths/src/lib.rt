@@ -1,7 +1,7 @@
 //! What the typing rules look at: labels, the values that a path leaves to variables, the variables in the conditions
+//! around, and where levels come from.
 #![tactic(auto)]
 
-//! around, and where levels come from.
 mod conditions;
 mod labels;
 mod origins;

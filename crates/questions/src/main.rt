@@ -1,7 +1,7 @@
 //! Answers questions to lattices of every kind, one to a line: `LATTICE sign`, `LATTICE below A B` and their like.
+//! `T:11/01` is the table with these lines.
 #![tactic(auto)]
 
-//! `T:11/01` is the table with these lines.
 use clearance::read_table;
 use lattice::{Chain, Lattice, Level, Pair, Reversed, Sets, pair_count};
 use refusal::Refusal;

@@ -3,7 +3,7 @@ use Rattle.std.specs.Prelude.{ℕ, zero, suc, ◌+◌, ◌*◌, Bool, true, fals
 use Rattle.std.specs.List.{range_with_len}
 use Rattle.refusal.specs.declared.Section.TheVariants.{Tables, Variables, Blocks}
 use Rattle.language.specs.Syntax as tree
-use Rattle.language.specs.Syntax.{Op, Expr, Cmd, Label, Design, constant, variable, complement, binary, shift_left, shift-right, part, above, choose, idle, seq, choice, assign, port, register, wire, fixed, looked_up}
+use Rattle.language.specs.Syntax.{Op, Expr, Cmd, Label, Design, constant, variable, complement, binary, shift_left, shift_right, part, above, choose, idle, seq, choice, assign, port, register, wire, fixed, looked_up}
 use Rattle.records.specs.Bytes.{field_of}
 use Rattle.records.specs.Layouts.{record_of, count_in}
 use Rattle.records.specs.Cells.{variable_at, block_at}
@@ -52,7 +52,7 @@ grow_expr (node.Variable w v k) at = variable w v k
 grow_expr (node.Not w a) at = complement w (at a)
 grow_expr (node.Pair w o a b) at = binary w (op_of o) (at a) (at b)
 grow_expr (node.ShiftLeft w a b) at = shift_left w (at a) b
-grow_expr (node.ShiftRight w a b) at = shift-right w (at a) b
+grow_expr (node.ShiftRight w a b) at = shift_right w (at a) b
 grow_expr (node.Part w a b) at = part w b (at a)
 grow_expr (node.Above w a b) at = above w (at a) (at b)
 grow_expr (node.Choose w a b c) at = choose w (at a) (at b) (at c)

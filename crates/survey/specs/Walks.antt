@@ -1,6 +1,6 @@
 -- What commands and expressions have in them, and blocks one after the other.
 use Rattle.std.specs.Prelude.{ℕ, zero, suc, Bool, false, ◌&&◌, ◌||◌, List, ◌==◌}
-use Rattle.language.specs.Syntax.{Expr, Cmd, constant, variable, complement, binary, shift_left, shift-right, part, above, choose, idle, seq, choice, assign}
+use Rattle.language.specs.Syntax.{Expr, Cmd, constant, variable, complement, binary, shift_left, shift_right, part, above, choose, idle, seq, choice, assign}
 use Rattle.language.specs.Form.{assigns}
 use Rattle.records.specs.declared.layout.Layout.{Layout}
 use Rattle.records.specs.Trees.{body_at}
@@ -12,7 +12,7 @@ reads p (variable w v m) k = m == k && p v
 reads p (complement w a) k = reads p a k
 reads p (binary w o a b) k = reads p a k || reads p b k
 reads p (shift_left w a n) k = reads p a k
-reads p (shift-right w a n) k = reads p a k
+reads p (shift_right w a n) k = reads p a k
 reads p (part w n a) k = reads p a k
 reads p (above w a b) k = reads p a k || reads p b k
 reads p (choose w c a b) k = reads p c k || (reads p a k || reads p b k)

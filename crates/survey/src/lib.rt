@@ -1,7 +1,7 @@
 //! What the rules of form ask of a design as a whole, found in one pass over its records and one walk over its blocks:
+//! how often each record is used, what the blocks assign, and which records read too early or write where they may not.
 #![tactic(auto)]
 
-//! how often each record is used, what the blocks assign, and which records read too early or write where they may not.
 mod marks;
 mod reach;
 mod sets;

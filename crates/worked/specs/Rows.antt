@@ -12,11 +12,11 @@ use Rattle.worked.specs.Designs.{taking, remembering, in_one_branch, in_both_bra
 
 pub data Row : Type 0 where
   -- the join, and the meet, of a and b is r
-  join_is meet-is : Meaning → (a b r : ℕ) → Row
+  join_is meet_is : Meaning → (a b r : ℕ) → Row
   -- there are n levels
   count_is : Meaning → (n : ℕ) → Row
   -- a is at or below b, and is not
-  is_below is-not-below : Meaning → (a b : ℕ) → Row
+  is_below is_not_below : Meaning → (a b : ℕ) → Row
   -- the operation on x and y, in as many bits as the width says, gives r
   operation_is : (width : ℕ) → Op → (x y r : ℕ) → Row
   -- the design is formed, and keeps the typing rules under the lattice
@@ -30,10 +30,10 @@ pub data Row : Type 0 where
 
 abbrev pub Holds : Row → Type 0
 Holds (join_is m a b r) = Joins m a b r
-Holds (meet-is m a b r) = Meets m a b r
+Holds (meet_is m a b r) = Meets m a b r
 Holds (count_is m n) = m.count ≡ n
 Holds (is_below m a b) = Below m a b
-Holds (is-not-below m a b) = m.below a b ≡ false
+Holds (is_not_below m a b) = m.below a b ≡ false
 Holds (operation_is w o x y r) = operated w o x y ≡ r
 Holds (is_accepted m d) = Formed d × Typed m d
 Holds (breaks_rule_13 m d n flow goal) = Formed d × Breaks13 m d n flow goal
@@ -44,10 +44,10 @@ Holds (is_held_after d before c v x) = step d (λ u. slice_index before u) c v �
 abbrev pub rows : List Row
 rows =
     join_is (sets 3) 5 3 7
-    ∷ meet-is (sets 3) 5 3 1
+    ∷ meet_is (sets 3) 5 3 1
     ∷ count_is (pair (chain 2) (sets 2)) 8
     ∷ is_below (pair (chain 2) (sets 2)) 6 7
-    ∷ is-not-below (pair (chain 2) (sets 2)) 6 5
+    ∷ is_not_below (pair (chain 2) (sets 2)) 6 5
     ∷ operation_is 8 sum 200 100 44
     ∷ operation_is 8 difference 3 5 254
     ∷ is_accepted (chain 2) (taking 1)

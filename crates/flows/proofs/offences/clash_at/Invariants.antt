@@ -8,5 +8,5 @@ use Rattle.flows.proofs.offences.clash_at.Given as goal
 
 abbrev pub invariant-loop-y : goal.invariant-loop-y
 invariant-loop-y g l =
-    (d : Design) (sets : Sets) → Tabled d sets l.p → Tabled d sets l.q → (k : ℕ) → k < l.y → Tries d sets (place_of l.q.origin) k → One (place_of l.p.origin) (place_of l.q.origin) l.x k
+    (d : Design) (sets : Sets) → Tabled d sets l.p → Tabled d sets l.q → Tries d sets (place_of l.p.origin) l.x → (k : ℕ) → k < l.y → Tries d sets (place_of l.q.origin) k → One (place_of l.p.origin) (place_of l.q.origin) l.x k
     → Below (g.L.Lattice.meaning l.lattice) (level_at d (place_of l.p.origin) l.x) (level_at d (place_of l.q.origin) k)
