@@ -20,7 +20,7 @@ pub(crate) fn byte_at(bytes: &[u8], i: usize) -> u8
 pub(crate) trait Relation {
     ghost relation: { Self → Meaning };
 
-    // It relates no number outside. (A ghost member, since a law is not proved of a type with a lifetime.)
+    // It relates no number outside.
     ghost levels: { (s : Self) → Levels (relation s) };
 
     fn size(&self) -> u32

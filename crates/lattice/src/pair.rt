@@ -55,7 +55,7 @@ impl<A: Lattice, B: Lattice> Pair<A, B> {
 
     // The level of two halves.
     fn level(&self, a: Level, b: Level) -> Level
-        requires second_bound { (A.Lattice.meaning self.now.first).count * (B.Lattice.meaning self.now.second).count ≤ 65536 }
+        requires product_bound { (A.Lattice.meaning self.now.first).count * (B.Lattice.meaning self.now.second).count ≤ 65536 }
         requires a_bound { a < (A.Lattice.meaning self.now.first).count }
         requires b_bound { b < (B.Lattice.meaning self.now.second).count }
         ensures { result ≡ a * (B.Lattice.meaning self.now.second).count + b }

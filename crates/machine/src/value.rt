@@ -1,7 +1,7 @@
 //! The values of expressions.
 ghost use Rattle.std.specs.Prelude.{◌≡◌, ℕ, ◌≤◌};
 ghost use Rattle.language.specs.Syntax.{width};
-ghost use Rattle.language.specs.Vectors.{«joined_above»};
+ghost use Rattle.language.specs.Vectors.{joined_above};
 ghost use Rattle.language.specs.Machine.{eval};
 ghost use Rattle.vectors.specs.Operations as vector;
 ghost use Rattle.records.specs.Nodes.{LowerOperands};
@@ -74,7 +74,7 @@ fn bits_at(file: &[u8], l: Layout, e: u32) -> u8
 fn join(width: u8, low: u8, x: u32, y: u32) -> u32
     requires wide { Wide width }
     requires low_bound { low ≤ 32 }
-    ensures { result ≡ «joined_above» width low x y }
+    ensures { result ≡ joined_above width low x y }
 {
     if low == 0 {
         return sum(wide(width), x, y);

@@ -3,7 +3,7 @@
 
 ghost use Rattle.std.specs.Prelude.{◌≡◌, ◌%◌, ◌^◌, ◌≤◌, MatchOption, ◌==◌, bit_and, bit_or, bit_xor, nat_lt};
 ghost use Rattle.language.specs.Syntax.{sum, difference};
-ghost use Rattle.language.specs.Vectors.{bit, complemented, operated, «shifted_left», «shifted_right», «part_from», «joined_above», chosen};
+ghost use Rattle.language.specs.Vectors.{bit, complemented, operated, shifted_left, shifted_right, part_from, joined_above, chosen};
 ghost use Rattle.vectors.specs.Operations.{op_of};
 
 /// How many bits a vector has: 1 to 32.
@@ -142,7 +142,7 @@ pub fn operate(width: Width, operation: Operation, x: u32, y: u32) -> u32
 
 /// The lowest bits of `x` shifted to the left by `by`.
 pub fn shift_left(width: Width, x: u32, by: u32) -> u32
-    ensures { result ≡ «shifted_left» width.bits x by }
+    ensures { result ≡ shifted_left width.bits x by }
 {
     if by < u32::BITS {
         width.keep((x as u64) << by)
@@ -153,21 +153,21 @@ pub fn shift_left(width: Width, x: u32, by: u32) -> u32
 
 /// `x` shifted to the right by `by`.
 pub fn shift_right(x: u32, by: u32) -> u32
-    ensures { result ≡ «shifted_right» x by }
+    ensures { result ≡ shifted_right x by }
 {
     if by < u32::BITS { x >> by } else { 0 }
 }
 
 /// The bits of `x` from bit `from` up, as many as the width says.
 pub fn part_from(width: Width, from: u32, x: u32) -> u32
-    ensures { result ≡ «part_from» width.bits from x }
+    ensures { result ≡ part_from width.bits from x }
 {
     width.keep(shift_right(x, from) as u64)
 }
 
 /// The lowest bits of `x` above `y`, which is as wide as `lower` says.
 pub fn join_above(width: Width, lower: Width, x: u32, y: u32) -> u32
-    ensures { result ≡ «joined_above» width.bits lower.bits x y }
+    ensures { result ≡ joined_above width.bits lower.bits x y }
 {
     width.keep(x as u64 * lower.power() + y as u64)
 }

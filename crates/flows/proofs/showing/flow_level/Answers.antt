@@ -1,5 +1,4 @@
-use Rattle.std.proofs.Common.{◌+◌, sym, subst}
-use Rattle.lattice.specs.Meaning.{Joins}
+use Rattle.std.proofs.Common.{◌+◌, sym, subst, rules}
 use Rattle.records.specs.Trees.{design_of}
 use Rattle.paths.specs.Marks.{flags_of}
 use Rattle.flows.specs.Findings.{JoinBelow, values_of}
@@ -21,6 +20,6 @@ loop-v-preserved g c levelled =
     let ρ = values_of c.args.values.now in
     let flow = flags_of c.args.flow.now in
     elim c.if-flow-v.branch [
-      | then-flow-v w ↦ join_more m laws d levelled ρ flow c.loop-v.v c.loop-v.join c.if-flow-v.join (c.loop-v.invariant levelled) (subst (λ z. Joins m c.loop-v.join z c.if-flow-v.join) w.level_now.ensures (subst (Joins m c.loop-v.join w.level_now.result) (sym w.join-is) w.join-join.ensures)) w.if-flow-v.true
+      | then-flow-v w ↦ join_more m laws d levelled ρ flow c.loop-v.v c.loop-v.join c.if-flow-v.join (c.loop-v.invariant levelled) (search rules) w.if-flow-v.true
       | else-flow-v w ↦ subst (JoinBelow m d ρ flow (c.loop-v.v + 1)) (sym w.join-is) (join_skip m laws d levelled ρ flow c.loop-v.v c.loop-v.join (c.loop-v.invariant levelled) w.if-flow-v.false)
     ]

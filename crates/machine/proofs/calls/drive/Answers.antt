@@ -10,5 +10,5 @@ returns c =
     let low = driven_low c.args.file.now c.args.l c.args.v c.args.x ok in
     record {
       answer = ok;
-      held = drive_is (design_of c.args.file.now c.args.l) c.args.held.now c.set.new.self c.clear.result c.args.v c.args.x low ok c.set.ensures c.clear.ensures;
+      held = drive_is (design_of c.args.file.now c.args.l) c.args.held.now c.set.new.self _ c.args.v c.args.x low ok c.set.ensures (search rules);
     }

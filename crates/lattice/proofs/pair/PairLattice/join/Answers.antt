@@ -13,7 +13,7 @@ level-requires g c =
     let halves =
     join_halves (g.met.A.Lattice.lawful s.first) (g.met.B.Lattice.lawful s.second) _ _ _ _ found.0
     (rw found.1 at c.join.ensures) (rw found.1 at c.join-2.ensures) in
-    record { second_bound = found.0.fits; a_bound = halves.0; b_bound = halves.1 }
+    record { product_bound = found.0.fits; a_bound = halves.0; b_bound = halves.1 }
 
 pub returns : goal.returns
 returns g c =

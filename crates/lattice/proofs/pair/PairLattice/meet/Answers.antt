@@ -13,7 +13,7 @@ level-requires g c =
     let halves =
     meet_halves (g.met.A.Lattice.lawful s.first) (g.met.B.Lattice.lawful s.second) _ _ _ _ found.0
     (rw found.1 at c.meet.ensures) (rw found.1 at c.meet-2.ensures) in
-    record { second_bound = found.0.fits; a_bound = halves.0; b_bound = halves.1 }
+    record { product_bound = found.0.fits; a_bound = halves.0; b_bound = halves.1 }
 
 pub returns : goal.returns
 returns g c =
