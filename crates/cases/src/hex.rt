@@ -9,21 +9,12 @@ fn digit(b: u8) -> Option<u8> {
     }
 }
 
+fn byte_of([high, low]: [u8; 2]) -> Option<u8> {
+    Some(digit(high)? << 4 | digit(low)?)
+}
+
 // The bytes that pairs of hexadecimal digits spell, up to the first that does not.
 pub(crate) fn bytes_of(heap: Global, hex: &str) -> Result<Vec<u8>, AllocError> {
-    let mut bytes = Vec::new(heap);
-    let mut high = None;
-    for b in hex.bytes() {
-        let Some(low) = digit(b) else {
-            break;
-        };
-        match high {
-            None => high = Some(low),
-            Some(top) => {
-                bytes.push(16 * (top & 15) + (low & 15))?;
-                high = None;
-            }
-        }
-    }
-    Ok(bytes)
+    let (pairs, _) = hex.as_bytes().as_chunks::<2>();
+    pairs.iter().map_while(|pair| byte_of(*pair)).collect(heap)
 }

@@ -1,31 +1,65 @@
 //! Judging a design under a lattice of each kind.
 use clearance::read_table;
 use design::read_design;
-use judgement::judge;
+use judgement::{Accepted, judge};
 use lattice::{Chain, Lattice, Pair, Reversed, Sets};
 use refusal::Refusal;
+use std::str::FromStr;
 
 const DIAMOND: &[u8] = b"1111\n0101\n0011\n0001";
 
-fn judge_under<L: Lattice>(file: &[u8], lattice: &L) -> Result<(), Refusal> {
-    let formed = read_design(file)?;
-    judge(&formed, lattice)?;
-    Ok(())
+/// The lattices that a case can name.
+#[derive(Clone, Copy)]
+pub(crate) enum LatticeName {
+    Chain,
+    Sets,
+    Diamond,
+    Pair,
+    Reversed,
 }
 
-/// The verdict under the lattice of this name, or nothing where there is none.
-pub(crate) fn judge_named(name: &str, file: &[u8]) -> Result<Option<()>, Refusal> {
+/// A word that names no lattice.
+#[derive(Clone, Copy)]
+pub(crate) struct UnknownLattice;
+
+impl FromStr for LatticeName {
+    type Err = UnknownLattice;
+
+    fn from_str(word: &str) -> Result<LatticeName, UnknownLattice> {
+        match word {
+            "C2" => Ok(LatticeName::Chain),
+            "S2" => Ok(LatticeName::Sets),
+            "T4" => Ok(LatticeName::Diamond),
+            "P(C2,C2)" => Ok(LatticeName::Pair),
+            "R(C3)" => Ok(LatticeName::Reversed),
+            _ => Err(UnknownLattice),
+        }
+    }
+}
+
+/// The design of a file, where it is accepted under the lattice.
+pub(crate) fn accepted<'a, L: Lattice>(
+    file: &'a [u8],
+    lattice: &L,
+) -> Result<Accepted<'a>, Refusal> {
+    let formed = read_design(file)?;
+    judge(&formed, lattice)
+}
+
+/// The design of a file, where it is accepted under the lattice that is named.
+pub(crate) fn accepted_under<'a>(
+    file: &'a [u8],
+    name: LatticeName,
+) -> Result<Accepted<'a>, Refusal> {
     match name {
-        "C2" => judge_under(file, &Chain::new(2)?)?,
-        "S2" => judge_under(file, &Sets::new(2)?)?,
-        "T4" => judge_under(file, &read_table(DIAMOND)?)?,
-        "P(C2,C2)" => {
+        LatticeName::Chain => accepted(file, &Chain::new(2)?),
+        LatticeName::Sets => accepted(file, &Sets::new(2)?),
+        LatticeName::Diamond => accepted(file, &read_table(DIAMOND)?),
+        LatticeName::Pair => {
             let first = Chain::new(2)?;
             let second = Chain::new(2)?;
-            judge_under(file, &Pair { first, second })?
+            accepted(file, &Pair { first, second })
         }
-        "R(C3)" => judge_under(file, &Reversed { of: Chain::new(3)? })?,
-        _ => return Ok(None),
+        LatticeName::Reversed => accepted(file, &Reversed { of: Chain::new(3)? }),
     }
-    Ok(Some(()))
 }

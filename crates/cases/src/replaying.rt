@@ -1,11 +1,12 @@
 //! Replaying a session.
 use crate::hex::bytes_of;
-use design::read_design;
-use judgement::{Accepted, judge};
+use crate::judging::accepted;
+use crate::outcome::print_outcome;
 use lattice::Chain;
 use refusal::Refusal;
 use session::Session;
 use std::io;
+use std::str::FromStr;
 
 #[derive(Clone, Copy)]
 enum Call {
@@ -15,31 +16,32 @@ enum Call {
     Read(u32, u32),
 }
 
+// A word that is no call.
+#[derive(Clone, Copy)]
+struct UnknownCall;
+
 fn numbers(text: &str) -> Option<(u32, u32)> {
     let (a, b) = text.split_once(':')?;
     Some((a.parse::<u32>().ok()?, b.parse::<u32>().ok()?))
 }
 
-fn call_of(word: &str) -> Option<Call> {
-    if let Some(rest) = word.strip_prefix("drive:") {
-        let (variable, value) = numbers(rest)?;
-        return Some(Call::Drive(variable, value));
-    }
-    if let Some(rest) = word.strip_prefix("read:") {
-        let (watcher, variable) = numbers(rest)?;
-        return Some(Call::Read(watcher, variable));
-    }
-    match word {
-        "clock" => Some(Call::Clock),
-        "reset" => Some(Call::Reset),
-        _ => None,
-    }
-}
+impl FromStr for Call {
+    type Err = UnknownCall;
 
-fn print_done(rt: &HostRuntime, answer: Result<(), Refusal>) -> io::Result<()> {
-    match answer {
-        Ok(()) => println!(rt; "done"),
-        Err(refusal) => println!(rt; "{refusal}"),
+    fn from_str(word: &str) -> Result<Call, UnknownCall> {
+        if let Some(rest) = word.strip_prefix("drive:") {
+            let (variable, value) = numbers(rest).ok_or(UnknownCall)?;
+            return Ok(Call::Drive(variable, value));
+        }
+        if let Some(rest) = word.strip_prefix("read:") {
+            let (watcher, variable) = numbers(rest).ok_or(UnknownCall)?;
+            return Ok(Call::Read(watcher, variable));
+        }
+        match word {
+            "clock" => Ok(Call::Clock),
+            "reset" => Ok(Call::Reset),
+            _ => Err(UnknownCall),
+        }
     }
 }
 
@@ -49,26 +51,22 @@ fn replay(
     lattice: &Chain,
     call: Call,
 ) -> io::Result<()> {
-    match call {
-        Call::Drive(variable, value) => print_done(rt, session.drive(variable, value)),
+    let outcome = match call {
+        Call::Drive(variable, value) => session.drive(variable, value),
         Call::Clock => {
             session.clock();
-            print_done(rt, Ok(()))
+            Ok(())
         }
         Call::Reset => {
             session.reset();
-            print_done(rt, Ok(()))
+            Ok(())
         }
         Call::Read(watcher, variable) => match session.read(lattice, watcher, variable) {
-            Ok((value, level)) => println!(rt; "{value} {level}"),
-            Err(refusal) => println!(rt; "{refusal}"),
+            Ok((value, level)) => return println!(rt; "{value} {level}"),
+            Err(refusal) => Err(refusal),
         },
-    }
-}
-
-fn accepted<'a>(file: &'a [u8], lattice: &Chain) -> Result<Accepted<'a>, Refusal> {
-    let formed = read_design(file)?;
-    judge(&formed, lattice)
+    };
+    print_outcome(rt, outcome, "done")
 }
 
 /// Replays a session: a design in hexadecimal, then its calls.
@@ -84,9 +82,9 @@ pub(crate) fn replay_all(rt: &HostRuntime, lattice: &Chain, line: &str) -> io::R
     };
     let mut session = Session::open(design);
     for word in words {
-        match call_of(word) {
-            Some(call) => replay(rt, &mut session, lattice, call)?,
-            None => println!(rt; "unknown")?,
+        match word.parse::<Call>() {
+            Ok(call) => replay(rt, &mut session, lattice, call)?,
+            Err(_) => println!(rt; "unknown")?,
         }
     }
     let _ = session.close();

@@ -9,14 +9,15 @@ use crate::relation::{
     Grid, MOST_CELLS, MOST_ROWS, Relation, Turned, are_bits, is_antisymmetric, is_reflexive,
     is_transitive, joins_of,
 };
-use lattice::{Lattice, Level};
+use lattice::{Lattice, Level, are_levels};
 use refusal::Refusal;
 
 /// Levels 0 to n - 1: row `a`, column `b` tells whether `a` is at or below `b`.
 #[derive(Clone, Copy)]
 pub struct Table {
     n: u32,
-    // The first n × n of each count: the order, and the joins and meets worked out from it.
+    // The order, and the joins and meets worked out from it: the first n × n bytes of each, row by row.
+    // Of fixed size, as there is no heap; three arrays, as the order stays the caller's bytes in one piece.
     bytes: [u8; MOST_CELLS],
     joins: [u8; MOST_CELLS],
     meets: [u8; MOST_CELLS],
@@ -25,16 +26,15 @@ pub struct Table {
     ghost sound: { ∥ WorkedOut n (take (n * n) bytes) joins meets ∥₁ },
 }
 
-// Whether the bytes are the table of an order of n levels.
-fn is_order(n: u32, bytes: &[u8]) -> bool
-    requires { n ≤ 16 }
-    ensures { Decides result (OrderTable n bytes.now) }
+// Whether the grid is the table of an order.
+fn is_order(grid: &Grid) -> bool
+    ensures { Decides result (OrderTable grid.now.n grid.now.bytes.now) }
 {
-    if bytes.len() != (n * n) as usize || !are_bits(bytes) {
-        return false;
-    }
-    let grid = Grid { n, bytes };
-    is_reflexive(&grid) && is_antisymmetric(&grid) && is_transitive(&grid)
+    grid.is_square()
+        && are_bits(grid.bytes)
+        && is_reflexive(grid)
+        && is_antisymmetric(grid)
+        && is_transitive(grid)
 }
 
 // The bytes, with zeros after them.
@@ -57,17 +57,13 @@ impl Table {
         if n < 1 || n > MOST_ROWS {
             return Err(Refusal::OutsideLimits);
         }
-        if !is_order(n, bytes) {
+        let grid = Grid { n, bytes };
+        if !is_order(&grid) {
             return Err(Refusal::NotALattice);
         }
-        let grid = Grid { n, bytes };
-        let Some(joins) = joins_of(&grid) else {
-            return Err(Refusal::NotALattice);
-        };
+        let joins = joins_of(&grid)?;
         let turned = Turned { of: grid };
-        let Some(meets) = joins_of(&turned) else {
-            return Err(Refusal::NotALattice);
-        };
+        let meets = joins_of(&turned)?;
         let bytes = padded(bytes);
         Ok(Table {
             n,
@@ -78,34 +74,33 @@ impl Table {
     }
 
     // The least level at or above two levels.
+    // Its twin reads the other array and promises the other fact, so a function for both would say less.
     fn least(&self, a: Level, b: Level) -> Level
-        requires { (a < self.now.n) × (b < self.now.n) }
+        requires a_level { a < self.now.n }
+        requires b_level { b < self.now.n }
         ensures { LeastAbove (table self.now.n (take (self.now.n * self.now.n) self.now.bytes)) a b result }
     {
-        self.joins[(a * self.n + b) as usize] as Level
+        Level::from(self.joins[(a * self.n + b) as usize])
     }
 
     // The greatest level at or below two levels.
     fn greatest(&self, a: Level, b: Level) -> Level
-        requires { (a < self.now.n) × (b < self.now.n) }
+        requires a_level { a < self.now.n }
+        requires b_level { b < self.now.n }
         ensures { GreatestBelow (table self.now.n (take (self.now.n * self.now.n) self.now.bytes)) a b result }
     {
-        self.meets[(a * self.n + b) as usize] as Level
+        Level::from(self.meets[(a * self.n + b) as usize])
     }
 }
 
 impl Lattice for Table {
     const SIGN: char = 'T';
 
+    ghost SIGN = { 84 };
+
     ghost meaning = { λ s. table s.n (take (s.n * s.n) s.bytes) };
 
     ghost lawful = { λ s. table_laws s.n (take (s.n * s.n) s.bytes) s.joins s.meets s.some s.most s.sound };
-
-    ghost levels = { λ s. (table_laws s.n (take (s.n * s.n) s.bytes) s.joins s.meets s.some s.most s.sound).order.levels };
-
-    ghost reflexive = { λ s. (table_laws s.n (take (s.n * s.n) s.bytes) s.joins s.meets s.some s.most s.sound).order.reflexive };
-
-    ghost transitive = { λ s. (table_laws s.n (take (s.n * s.n) s.bytes) s.joins s.meets s.some s.most s.sound).order.transitive };
 
     fn count(&self) -> u32 {
         self.n
@@ -120,7 +115,7 @@ impl Lattice for Table {
     }
 
     fn join(&self, a: Level, b: Level) -> Level {
-        if a < self.n && b < self.n {
+        if are_levels(self.n, a, b) {
             self.least(a, b)
         } else {
             self.lowest()
@@ -128,7 +123,7 @@ impl Lattice for Table {
     }
 
     fn meet(&self, a: Level, b: Level) -> Level {
-        if a < self.n && b < self.n {
+        if are_levels(self.n, a, b) {
             self.greatest(a, b)
         } else {
             self.lowest()
@@ -136,6 +131,7 @@ impl Lattice for Table {
     }
 
     fn lowest(&self) -> Level {
+        // A loop, as below: the closure of a fold could not know that what it has so far is a level.
         let mut low = 0;
         for t in 0..self.n {
             low = self.greatest(low, t);

@@ -1,10 +1,10 @@
 //! A table as text: n lines of n digits 0 or 1.
-ghost use Rattle.std.specs.Prelude.{◌≡◌, ℕ, ◌*◌, ◌<◌, ◌≤◌, length, take, Decides, MatchResult};
+ghost use Rattle.std.specs.Prelude.{◌≡◌, ℕ, ◌*◌, ◌<◌, ◌≤◌, length, slice_index, take, Decides, MatchResult};
 ghost use Rattle.clearance.specs.Tables.{Sound, Countable, TableRefused};
 ghost use Rattle.clearance.specs.Text.{begins, line_count, Ruled, digit, cell, cells};
 
 use crate::Table;
-use crate::relation::{MOST_CELLS, MOST_ROWS, byte_at};
+use crate::relation::{MOST_CELLS, MOST_ROWS};
 use refusal::Refusal;
 
 const LINE_END: u8 = b'\n';
@@ -12,19 +12,20 @@ const LINE_END: u8 = b'\n';
 fn begins_line(text: &[u8], i: usize) -> bool
     ensures { result ≡ begins text.now i }
 {
-    i == 0 || byte_at(text, i - 1) == LINE_END
+    i == 0 || text.get(i - 1).copied().unwrap_or(0) == LINE_END
 }
 
 fn line_count(text: &[u8]) -> usize
     ensures { result ≡ line_count text.now }
 {
-    let mut lines = 0;
-    for i in 0..text.len() {
-        if begins_line(text, i) {
-            lines += 1;
-        }
-    }
-    lines
+    (0..text.len()).filter(|i| begins_line(text, *i)).count()
+}
+
+// Whether a line may end at a place: past the end of the text it may.
+fn ends_line(text: &[u8], i: usize) -> bool
+    ensures { Decides result (i < length text.now → slice_index text.now i ≡ 10) }
+{
+    i >= text.len() || text[i] == LINE_END
 }
 
 // Whether the text is n lines of n bytes.
@@ -36,16 +37,11 @@ fn is_ruled(n: usize, text: &[u8]) -> bool
     if text.len() != size && text.len() + 1 != size {
         return false;
     }
-    for a in 0..n {
-        let end = a * (n + 1) + n;
-        if end < text.len() && text[end] != LINE_END {
-            return false;
-        }
-    }
-    true
+    (0..n).all(|a| ends_line(text, a * (n + 1) + n))
 }
 
 // What a byte says: 0, 1, or neither.
+// A number for neither, since a table refuses it with its other faults: an Option would test each cell twice.
 fn digit_of(b: u8) -> u8
     ensures { result ≡ digit b }
 {
@@ -62,8 +58,9 @@ fn cells_of(n: usize, text: &[u8]) -> [u8; MOST_CELLS]
     ensures { take (n * n) result ≡ cells n text.now }
 {
     let mut all = [0; MOST_CELLS];
+    // The cells only: a `from_fn` would fill the places after them too, and there divide by an n of 0.
     for k in 0..n * n {
-        all[k] = digit_of(byte_at(text, k + k / n));
+        all[k] = digit_of(text.get(k + k / n).copied().unwrap_or(0));
     }
     all
 }
@@ -76,6 +73,7 @@ pub fn read_table(text: &[u8]) -> Result<Table, Refusal>
         (λ f. TableRefused (line_count text.now) (Ruled (line_count text.now) text.now × Sound (line_count text.now) (cells (line_count text.now) text.now)) f) }
 {
     let n = line_count(text);
+    // Asked here too, since the cells have to fit before `Table::new` can ask.
     if n < 1 || n > MOST_ROWS as usize {
         return Err(Refusal::OutsideLimits);
     }

@@ -6,8 +6,7 @@ use Rattle.lattice.specs.Meaning.{All}
 use Rattle.language.specs.Syntax.{Cmd, Expr, Design, register, idle, seq, choice, assign, var, together}
 use Rattle.language.specs.Machine.{inside, held, is_wire_kind}
 use Rattle.language.specs.Form.{Way, Each, Reads, Settles, Settling, Clocks, Formed, Apart, assigns}
-use Rattle.records.specs.declared.layout.Layout.{Layout}
-use Rattle.records.specs.Layouts.{count_in}
+use Rattle.records.specs.Layouts.{File, count_in}
 use Rattle.records.specs.Trees.{body_at, settled_at, bodies, design_of}
 use Rattle.records.proofs.Designs.{settled_is, clocked_is}
 use Rattle.survey.specs.Walks.{twice}
@@ -37,35 +36,35 @@ apart_twice (seq x y) a v =
 apart_twice (choice e x y) a v = or_from (twice x v) (twice y v) (apart_twice x a.0 v) (apart_twice y a.1 v)
 apart_twice (assign u e k) a v = refl
 
-module _ (f : List ℕ) (l : Layout) where
+module _ (f : File) where
   abbrev d : Design
-  d = design_of f l
+  d = design_of f
 
   abbrev blocks : ℕ
-  blocks = count_in l Blocks
+  blocks = count_in f Blocks
 
   abbrev settled : ℕ → Bool
-  settled b = settled_at f l b
+  settled b = settled_at f b
 
   -- what a settled block knows
   pub record Inv (b : ℕ) (known : ℕ → Bool) : Type 0 where
-    pub sound : (v : ℕ) → known v ≡ true → (held d v ≡ true) ⊎ ((c : ℕ) × (c < b) × (settled c ≡ true) × (assigns (body_at f l c) v ≡ true))
+    pub sound : (v : ℕ) → known v ≡ true → (held d v ≡ true) ⊎ ((c : ℕ) × (c < b) × (settled c ≡ true) × (assigns (body_at f c) v ≡ true))
     pub all : (v : ℕ) → held d v ≡ true → known v ≡ true
-    pub before : (c v : ℕ) → c < b → settled c ≡ true → assigns (body_at f l c) v ≡ true → known v ≡ true
+    pub before : (c v : ℕ) → c < b → settled c ≡ true → assigns (body_at f c) v ≡ true → known v ≡ true
 
   inv_start : Inv 0 (held d)
   inv_start = record { sound = λ v h. inl h; all = λ v h. h; before = λ c v lt s a. absurd (omega arith) }
 
-  inv_settled : (b : ℕ) (known : ℕ → Bool) → Inv b known → settled b ≡ true → Inv (b + 1) (λ v. known v || assigns (body_at f l b) v)
+  inv_settled : (b : ℕ) (known : ℕ → Bool) → Inv b known → settled b ≡ true → Inv (b + 1) (λ v. known v || assigns (body_at f b) v)
   inv_settled b known i s = record {
     sound = λ v h. ⊎_elim
         (λ k. ⊎_elim (λ x. inl x) (λ x. inr (x.0, omega (arith, x.1), x.2, x.3)) (i.sound v k))
         (λ a. inr (b, omega arith, s, a))
-        (or_cases (known v) (assigns (body_at f l b) v) h);
-    all = λ v h. or_left (known v) (assigns (body_at f l b) v) (i.all v h);
+        (or_cases (known v) (assigns (body_at f b) v) h);
+    all = λ v h. or_left (known v) (assigns (body_at f b) v) (i.all v h);
     before = λ c v lt sc a. ⊎_elim
-        (λ below. or_left (known v) (assigns (body_at f l b) v) (i.before c v below sc a))
-        (λ ge. let z : c ≡ b = omega arith in or_right (known v) (assigns (body_at f l b) v) (subst (λ k. assigns (body_at f l k) v ≡ true) z a))
+        (λ below. or_left (known v) (assigns (body_at f b) v) (i.before c v below sc a))
+        (λ ge. let z : c ≡ b = omega arith in or_right (known v) (assigns (body_at f b) v) (subst (λ k. assigns (body_at f k) v ≡ true) z a))
         (cases_lt c b);
   }
 
@@ -82,27 +81,27 @@ module _ (f : List ℕ) (l : Layout) where
   pub record At (b : ℕ) : Type 0 where
     pub known : ℕ → Bool
     pub inv : Inv b known
-    pub each : Each (Reads d known 1) (λ path u e. Settles d known (body_at f l b) u e) [] (body_at f l b)
-    pub apart : Apart (body_at f l b)
+    pub each : Each (Reads d known 1) (λ path u e. Settles d known (body_at f b) u e) [] (body_at f b)
+    pub apart : Apart (body_at f b)
 
-  pub settles_of : (b v : ℕ) (x : At b) → assigns (body_at f l b) v ≡ true → (e : Expr) × Settles d x.known (body_at f l b) v e
-  settles_of b v x a = let r = each_assigned (Reads d x.known 1) (λ path u e. Settles d x.known (body_at f l b) u e) v [] (body_at f l b) x.each a in (r.1, r.2)
+  pub settles_of : (b v : ℕ) (x : At b) → assigns (body_at f b) v ≡ true → (e : Expr) × Settles d x.known (body_at f b) v e
+  settles_of b v x a = let r = each_assigned (Reads d x.known 1) (λ path u e. Settles d x.known (body_at f b) u e) v [] (body_at f b) x.each a in (r.1, r.2)
 
   pub record End : Type 0 where
     pub known : ℕ → Bool
     pub inv : Inv blocks known
     pub full : (v : ℕ) → inside d v ≡ true → known v ≡ true
 
-  walk : (k b : ℕ) (known : ℕ → Bool) → b + k ≡ blocks → Inv b known → Settling d known (bodies f l (settled_at f l) b k) → ((c : ℕ) → b ≤ c → c < blocks → settled c ≡ true → At c) × End
+  walk : (k b : ℕ) (known : ℕ → Bool) → b + k ≡ blocks → Inv b known → Settling d known (bodies f (settled_at f) b k) → ((c : ℕ) → b ≤ c → c < blocks → settled c ≡ true → At c) × End
   walk zero b known e i s =
       (λ c le lt sc. absurd (omega (arith, e)), let z : b ≡ blocks = omega (arith, e) in record { known = known; inv = subst (λ n. Inv n known) z i; full = s })
   walk (suc k) b known e i s = by (settled b) refl s (λ known' i' s'. walk k (b + 1) known' (omega (arith, e)) i' s')
     where
-      by : (t : Bool) → settled b ≡ t → Settling d known (cond t (body_at f l b ∷ bodies f l (settled_at f l) (b + 1) k) (bodies f l (settled_at f l) (b + 1) k))
-          → ((known' : ℕ → Bool) → Inv (b + 1) known' → Settling d known' (bodies f l (settled_at f l) (b + 1) k) → ((c : ℕ) → b + 1 ≤ c → c < blocks → settled c ≡ true → At c) × End)
+      by : (t : Bool) → settled b ≡ t → Settling d known (cond t (body_at f b ∷ bodies f (settled_at f) (b + 1) k) (bodies f (settled_at f) (b + 1) k))
+          → ((known' : ℕ → Bool) → Inv (b + 1) known' → Settling d known' (bodies f (settled_at f) (b + 1) k) → ((c : ℕ) → b + 1 ≤ c → c < blocks → settled c ≡ true → At c) × End)
           → ((c : ℕ) → b ≤ c → c < blocks → settled c ≡ true → At c) × End
       by true is s rec =
-          let r = rec (λ v. known v || assigns (body_at f l b) v) (inv_settled b known i is) s.2 in (
+          let r = rec (λ v. known v || assigns (body_at f b) v) (inv_settled b known i is) s.2 in (
             λ c le lt sc. ⊎_elim
                 (λ (above : b < c). r.0 c (omega arith) lt sc)
                 (λ here. let z : b ≡ c = omega arith in subst At z (record { known = known; inv = i; each = s.0; apart = s.1 }))
@@ -119,35 +118,35 @@ module _ (f : List ℕ) (l : Layout) where
           )
 
   abbrev clocked_from : ℕ → ℕ → List Cmd
-  clocked_from b k = bodies f l (λ j. not (settled_at f l j)) b k
+  clocked_from b k = bodies f (λ j. not (settled_at f j)) b k
 
-  in_together : (k b c v : ℕ) → b + k ≡ blocks → b ≤ c → c < blocks → settled c ≡ false → assigns (body_at f l c) v ≡ true → assigns (together (clocked_from b k)) v ≡ true
+  in_together : (k b c v : ℕ) → b + k ≡ blocks → b ≤ c → c < blocks → settled c ≡ false → assigns (body_at f c) v ≡ true → assigns (together (clocked_from b k)) v ≡ true
   in_together zero b c v e le lt s a = absurd (omega (arith, e))
   in_together (suc k) b c v e le lt s a = by (settled b) refl (λ above. in_together k (b + 1) c v (omega (arith, e)) above lt s a)
     where
-      by : (t : Bool) → settled b ≡ t → (b + 1 ≤ c → assigns (together (clocked_from (b + 1) k)) v ≡ true) → assigns (together (cond (not t) (body_at f l b ∷ clocked_from (b + 1) k) (clocked_from (b + 1) k))) v ≡ true
+      by : (t : Bool) → settled b ≡ t → (b + 1 ≤ c → assigns (together (clocked_from (b + 1) k)) v ≡ true) → assigns (together (cond (not t) (body_at f b ∷ clocked_from (b + 1) k) (clocked_from (b + 1) k))) v ≡ true
       by true is rest = ⊎_elim (λ (above : b < c). rest (omega arith)) (λ here. let z : c ≡ b = omega arith in absurd (true≢false (sym is ∙ ap settled (sym z) ∙ s))) (cases_lt b c)
       by false is rest =
           ⊎_elim
-          (λ (above : b < c). or_right (assigns (body_at f l b) v) (assigns (together (clocked_from (b + 1) k)) v) (rest (omega arith)))
-          (λ here. let z : c ≡ b = omega arith in or_left (assigns (body_at f l b) v) (assigns (together (clocked_from (b + 1) k)) v) (subst (λ n. assigns (body_at f l n) v ≡ true) z a))
+          (λ (above : b < c). or_right (assigns (body_at f b) v) (assigns (together (clocked_from (b + 1) k)) v) (rest (omega arith)))
+          (λ here. let z : c ≡ b = omega arith in or_left (assigns (body_at f b) v) (assigns (together (clocked_from (b + 1) k)) v) (subst (λ n. assigns (body_at f n) v ≡ true) z a))
           (cases_lt b c)
 
   abbrev Clocking : List Cmd → Type 0
   Clocking cs = All (Each (Reads d (inside d) 1) (λ path u e. Clocks d u e) []) cs
 
   pub record Clocked (b : ℕ) : Type 0 where
-    pub each : Each (Reads d (inside d) 1) (λ path u e. Clocks d u e) [] (body_at f l b)
-    pub apart : Apart (body_at f l b)
-    pub after : (c v : ℕ) → b < c → c < blocks → settled c ≡ false → assigns (body_at f l b) v ≡ true → assigns (body_at f l c) v ≡ true → ⊥
+    pub each : Each (Reads d (inside d) 1) (λ path u e. Clocks d u e) [] (body_at f b)
+    pub apart : Apart (body_at f b)
+    pub after : (c v : ℕ) → b < c → c < blocks → settled c ≡ false → assigns (body_at f b) v ≡ true → assigns (body_at f c) v ≡ true → ⊥
 
   walk_clocked : (k b : ℕ) → b + k ≡ blocks → Clocking (clocked_from b k) → Apart (together (clocked_from b k)) → (c : ℕ) → b ≤ c → c < blocks → settled c ≡ false → Clocked c
   walk_clocked zero b e x a c le lt s = absurd (omega (arith, e))
   walk_clocked (suc k) b e x a c le lt s = by (settled b) refl x a (λ x' a' above. walk_clocked k (b + 1) (omega (arith, e)) x' a' c above lt s)
     where
       by : (t : Bool) → settled b ≡ t
-          → Clocking (cond (not t) (body_at f l b ∷ clocked_from (b + 1) k) (clocked_from (b + 1) k))
-          → Apart (together (cond (not t) (body_at f l b ∷ clocked_from (b + 1) k) (clocked_from (b + 1) k)))
+          → Clocking (cond (not t) (body_at f b ∷ clocked_from (b + 1) k) (clocked_from (b + 1) k))
+          → Apart (together (cond (not t) (body_at f b ∷ clocked_from (b + 1) k) (clocked_from (b + 1) k)))
           → (Clocking (clocked_from (b + 1) k) → Apart (together (clocked_from (b + 1) k)) → b + 1 ≤ c → Clocked c)
           → Clocked c
       by true is x a rec = ⊎_elim (λ (above : b < c). rec x a (omega arith)) (λ here. let z : c ≡ b = omega arith in absurd (true≢false (sym is ∙ ap settled (sym z) ∙ s))) (cases_lt b c)
@@ -163,30 +162,30 @@ module _ (f : List ℕ) (l : Layout) where
 
   module _ (fm : Formed d) where
     pub settled_stands : (b : ℕ) → b < blocks → settled b ≡ true → At b
-    settled_stands b lt s = (walk blocks 0 (held d) (omega arith) inv_start (subst (Settling d (held d)) (settled_is f l) fm.settling)).0 b (omega arith) lt s
+    settled_stands b lt s = (walk blocks 0 (held d) (omega arith) inv_start (subst (Settling d (held d)) (settled_is f) fm.settling)).0 b (omega arith) lt s
 
     pub ending : End
-    ending = (walk blocks 0 (held d) (omega arith) inv_start (subst (Settling d (held d)) (settled_is f l) fm.settling)).1
+    ending = (walk blocks 0 (held d) (omega arith) inv_start (subst (Settling d (held d)) (settled_is f) fm.settling)).1
 
     pub clocked_stands : (b : ℕ) → b < blocks → settled b ≡ false → Clocked b
-    clocked_stands b lt s = walk_clocked blocks 0 (omega arith) (subst Clocking (clocked_is f l) fm.clocking) (subst (λ cs. Apart (together cs)) (clocked_is f l) fm.apart) b (omega arith) lt s
+    clocked_stands b lt s = walk_clocked blocks 0 (omega arith) (subst Clocking (clocked_is f) fm.clocking) (subst (λ cs. Apart (together cs)) (clocked_is f) fm.apart) b (omega arith) lt s
 
     -- the widths of a block
-    pub body_wide : (b : ℕ) → b < blocks → Wide f l [] (body_at f l b)
+    pub body_wide : (b : ℕ) → b < blocks → Wide f [] (body_at f b)
     body_wide b lt =
         ⊎_elim
-        (λ s. each_map (λ e x. (x.sized, x.wide)) (λ p u e x. (x.source.sized, x.source.wide)) [] (body_at f l b) (settled_stands b lt s).each)
-        (λ s. each_map (λ e x. (x.sized, x.wide)) (λ p u e x. (x.source.sized, x.source.wide)) [] (body_at f l b) (clocked_stands b lt s).each)
+        (λ s. each_map (λ e x. (x.sized, x.wide)) (λ p u e x. (x.source.sized, x.source.wide)) [] (body_at f b) (settled_stands b lt s).each)
+        (λ s. each_map (λ e x. (x.sized, x.wide)) (λ p u e x. (x.source.sized, x.source.wide)) [] (body_at f b) (clocked_stands b lt s).each)
         (cases_Bool (settled b))
 
     register_held : (v : ℕ) → (var d v).kind ≡ register → held d v ≡ true
     register_held v e = ap (λ k. not (is_wire_kind k)) e
 
-    pub clocked_register : (b v : ℕ) → b < blocks → settled b ≡ false → assigns (body_at f l b) v ≡ true → (var d v).kind ≡ register
-    clocked_register b v lt s a = (each_assigned (Reads d (inside d) 1) (λ path u e. Clocks d u e) v [] (body_at f l b) (clocked_stands b lt s).each a).2.target
+    pub clocked_register : (b v : ℕ) → b < blocks → settled b ≡ false → assigns (body_at f b) v ≡ true → (var d v).kind ≡ register
+    clocked_register b v lt s a = (each_assigned (Reads d (inside d) 1) (λ path u e. Clocks d u e) v [] (body_at f b) (clocked_stands b lt s).each a).2.target
 
     -- no variable is assigned in two blocks
-    pub clash : (c b v : ℕ) → c < b → b < blocks → assigns (body_at f l c) v ≡ true → assigns (body_at f l b) v ≡ true → ⊥
+    pub clash : (c b v : ℕ) → c < b → b < blocks → assigns (body_at f c) v ≡ true → assigns (body_at f b) v ≡ true → ⊥
     clash c b v lt h ac ab = ⊎_elim in_settled in_clocked (cases_Bool (settled b))
       where
         hc : c < blocks

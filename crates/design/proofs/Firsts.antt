@@ -1,12 +1,12 @@
 -- The first refusal, and what no refusal means.
-use Rattle.std.proofs.Common.{◌≡◌, ℕ, zero, suc, ◌+◌, ◌<◌, Bool, true, false, cond, List, Some, None, Ok, Err, Option, Result, sym, refl, ap, ◌∙◌, subst, inr, ⊎_elim, true≢false, arith}
-use Rattle.std.proofs.lemmas.Bool.{cases_lt, or_parts}
+use Rattle.std.proofs.Common.{◌≡◌, ℕ, zero, suc, ◌+◌, ◌<◌, Bool, true, false, cond, Some, None, Ok, Err, Option, Result, MatchResult, sym, refl, ap, ◌∙◌, subst, inr, ⊎_elim, true≢false, arith}
+use Rattle.std.proofs.lemmas.Bool.{cases_lt, or_parts, not-false, false_from_ne_true}
 use Rattle.refusal.specs.declared.Section.{Section}
 use Rattle.refusal.specs.declared.Section.TheVariants.{Tables, Variables, Blocks, Commands, Expressions}
 use Rattle.refusal.specs.declared.Refusal.{Refusal}
 use Rattle.refusal.specs.Notice.{notice, section_number}
 use Rattle.records.specs.declared.layout.Layout.{Layout}
-use Rattle.records.specs.Layouts.{section_at, or_else, layout_of, count_in}
+use Rattle.records.specs.Layouts.{File, section_at, or_else, layout_of, count_in}
 use Rattle.records.specs.Cells.{command_at, expression_at}
 use Rattle.records.specs.Trees.{settled_at}
 use Rattle.survey.specs.Uses.{command_used, expr_used}
@@ -17,11 +17,10 @@ use Rattle.rules.specs.declared.Rule.TheVariants.{Range, Use, Width, Assignment,
 use Rattle.rules.specs.Parts.{differ, command_high, expr_high}
 use Rattle.rules.specs.Blocks.{clocked_at}
 use Rattle.rules.specs.Rules.{offends}
-use Rattle.rules.specs.First.{refusal_of, first, refused_at, refused_in, refused_by}
-use Rattle.design.specs.First.{rule_at, form_refusal}
+use Rattle.rules.specs.First.{refusal_of, first, refused_at, refused_in, refused_by, rule_at, form_refusal, checked}
+use Rattle.design.specs.First.{under}
 use Rattle.design.specs.Right.{Right, Quiet, Before, First, Refused, Says}
 use Rattle.design.proofs.Fits.{not_differ, second}
-use Rattle.design.proofs.Selecting.{not_not}
 use Rattle.design.proofs.Forms.{formed}
 use Rattle.design.proofs.Backward.{quiet_back}
 
@@ -154,9 +153,9 @@ record_is Assignment s n = refl
 record_is Reading s n = refl
 record_is Selector s n = refl
 
-module _ (f : List ℕ) (l : Layout) where
+module _ (f : File) where
   -- a record that breaks a rule is named with its own section
-  section_is : (k : Rule) (s : Section) (n : ℕ) → offends f l k s n ≡ true → (notice (refusal_of k s n)).section ≡ section_number s
+  section_is : (k : Rule) (s : Section) (n : ℕ) → offends f k s n ≡ true → (notice (refusal_of k s n)).section ≡ section_number s
   section_is Range s n e = refl
   section_is Use s n e = refl
   section_is Width s n e = refl
@@ -172,20 +171,20 @@ module _ (f : List ℕ) (l : Layout) where
   section_is Selector Commands n e = absurd (true≢false (sym e))
   section_is Selector Expressions n e = absurd (true≢false (sym e))
 
-  by_none : (k : Rule) (s : Section) (n : ℕ) → refused_by f l k ≡ None → n < count_in l s → offends f l k s n ≡ false
+  by_none : (k : Rule) (s : Section) (n : ℕ) → refused_by f k ≡ None → n < count_in f s → offends f k s n ≡ false
   by_none k s n e h =
-      let at = subst (λ x. refused_in f l k x ≡ None) (section_back s) (none_at (λ i. refused_in f l k (section_at i)) 5 (section_number s) e (section_low s)) in
-      no_offence (offends f l k s n) _ (none_at (refused_at f l k s) (count_in l s) n at h)
+      let at = subst (λ x. refused_in f k x ≡ None) (section_back s) (none_at (λ i. refused_in f k (section_at i)) 5 (section_number s) e (section_low s)) in
+      no_offence (offends f k s n) _ (none_at (refused_at f k s) (count_in f s) n at h)
 
-  quiet_when : form_refusal f l ≡ None → Quiet f l
-  quiet_when e k s n h = by_none k s n (subst (λ x. refused_by f l x ≡ None) (rule_back k) (none_at (λ j. refused_by f l (rule_at j)) 6 (rule_index k) e (rule_low k))) h
+  quiet_when : form_refusal f ≡ None → Quiet f
+  quiet_when e k s n h = by_none k s n (subst (λ x. refused_by f x ≡ None) (rule_back k) (none_at (λ j. refused_by f (rule_at j)) 6 (rule_index k) e (rule_low k))) h
 
   -- the first place that offends
-  made : (k i n : ℕ) → k < 6 → i < 5 → n < count_in l (section_at i) → offends f l (rule_at k) (section_at i) n ≡ true
-      → ((j : ℕ) → j < k → refused_by f l (rule_at j) ≡ None)
-      → ((j : ℕ) → j < i → refused_in f l (rule_at k) (section_at j) ≡ None)
-      → ((j : ℕ) → j < n → refused_at f l (rule_at k) (section_at i) j ≡ None)
-      → First f l (refusal_of (rule_at k) (section_at i) n)
+  made : (k i n : ℕ) → k < 6 → i < 5 → n < count_in f (section_at i) → offends f (rule_at k) (section_at i) n ≡ true
+      → ((j : ℕ) → j < k → refused_by f (rule_at j) ≡ None)
+      → ((j : ℕ) → j < i → refused_in f (rule_at k) (section_at j) ≡ None)
+      → ((j : ℕ) → j < n → refused_at f (rule_at k) (section_at i) j ≡ None)
+      → First f (refusal_of (rule_at k) (section_at i) n)
   made k i n hk hi hn off bk bi bn = record {
     rule = rule_at k;
     section = section_at i;
@@ -193,15 +192,10 @@ module _ (f : List ℕ) (l : Layout) where
     inside = hn;
     named = refl;
     offender = off;
-    none_before = λ c s m h before. no_yes (offends f l c s m) (λ e. earlier c s m h e
-        (subst (λ x. Before x (notice (refusal_of (rule_at k) (section_at i) n))) refl before));
+    none_before = λ c s m h before. false_from_ne_true (offends f c s m) (λ e. earlier c s m h e before);
   }
     where
-      no_yes : (b : Bool) → (b ≡ true → ⊥) → b ≡ false
-      no_yes true x = absurd (x refl)
-      no_yes false x = refl
-
-      clash : (c : Rule) (s : Section) (m : ℕ) → offends f l c s m ≡ true → offends f l c s m ≡ false → ⊥
+      clash : (c : Rule) (s : Section) (m : ℕ) → offends f c s m ≡ true → offends f c s m ≡ false → ⊥
       clash c s m e z = true≢false (sym e ∙ z)
 
       same_rule : (c : Rule) → rule_index c ≡ k → c ≡ rule_at k
@@ -210,7 +204,7 @@ module _ (f : List ℕ) (l : Layout) where
       same_section : (s : Section) → section_number s ≡ i → s ≡ section_at i
       same_section s e = sym (section_back s) ∙ ap section_at e
 
-      earlier : (c : Rule) (s : Section) (m : ℕ) → m < count_in l s → offends f l c s m ≡ true → Before (notice (refusal_of c s m)) (notice (refusal_of (rule_at k) (section_at i) n)) → ⊥
+      earlier : (c : Rule) (s : Section) (m : ℕ) → m < count_in f s → offends f c s m ≡ true → Before (notice (refusal_of c s m)) (notice (refusal_of (rule_at k) (section_at i) n)) → ⊥
       earlier c s m h e before =
           let nc = number_is c s m in
           let nk = number_is (rule_at k) (section_at i) n in
@@ -221,58 +215,66 @@ module _ (f : List ℕ) (l : Layout) where
           ⊎_elim
           (λ (lt : (notice (refusal_of c s m)).number < (notice (refusal_of (rule_at k) (section_at i) n)).number).
           let low : rule_index c < k = omega (arith, nc, nk, tk, lt) in
-          clash c s m e (by_none c s m (subst (λ x. refused_by f l x ≡ None) (rule_back c) (bk (rule_index c) low)) h))
+          clash c s m e (by_none c s m (subst (λ x. refused_by f x ≡ None) (rule_back c) (bk (rule_index c) low)) h))
           (λ rest.
           let rule : rule_index c ≡ k = omega (arith, nc, nk, tk, rest.0) in
           let is = same_rule c rule in
           ⊎_elim
           (λ (lt : (notice (refusal_of c s m)).section < (notice (refusal_of (rule_at k) (section_at i) n)).section).
           let low : section_number s < i = omega (arith, sc, sk, ti, lt) in
-          let none : refused_in f l (rule_at k) s ≡ None = subst (λ x. refused_in f l (rule_at k) x ≡ None) (section_back s) (bi (section_number s) low) in
-          clash c s m e (no_offence (offends f l c s m) _ (none_at (refused_at f l c s) (count_in l s) m (subst (λ x. refused_in f l x s ≡ None) (sym is) none) h)))
+          let none : refused_in f (rule_at k) s ≡ None = subst (λ x. refused_in f (rule_at k) x ≡ None) (section_back s) (bi (section_number s) low) in
+          clash c s m e (no_offence (offends f c s m) _ (none_at (refused_at f c s) (count_in f s) m (subst (λ x. refused_in f x s ≡ None) (sym is) none) h)))
           (λ last.
           let sec : section_number s ≡ i = omega (arith, sc, sk, ti, last.0) in
           let low : m < n = subst (λ x. x < n) (record_is c s m) (subst (λ x. (notice (refusal_of c s m)).«record» < x) (record_is (rule_at k) (section_at i) n) last.1) in
-          let none = subst (λ x. refused_at f l (rule_at k) x m ≡ None) (sym (same_section s sec)) (bn m low) in
-          clash c s m e (no_offence (offends f l c s m) _ (subst (λ x. refused_at f l x s m ≡ None) (sym is) none)))
+          let none = subst (λ x. refused_at f (rule_at k) x m ≡ None) (sym (same_section s sec)) (bn m low) in
+          clash c s m e (no_offence (offends f c s m) _ (subst (λ x. refused_at f x s m ≡ None) (sym is) none)))
           rest.1)
           before
 
-  first_is : (r : Refusal) → form_refusal f l ≡ Some r → First f l r
+  first_is : (r : Refusal) → form_refusal f ≡ Some r → First f r
   first_is r e =
-      let a = least (λ k. refused_by f l (rule_at k)) 6 r e in
-      let b = least (λ i. refused_in f l (rule_at a.at) (section_at i)) 5 r a.gives in
-      let c = least (refused_at f l (rule_at a.at) (section_at b.at)) (count_in l (section_at b.at)) r b.gives in
-      let t = taken (offends f l (rule_at a.at) (section_at b.at) c.at) _ r c.gives in
-      subst (First f l) (ap (unsome r) t.1) (made a.at b.at c.at a.low b.low c.low t.0 a.before b.before c.before)
+      let a = least (λ k. refused_by f (rule_at k)) 6 r e in
+      let b = least (λ i. refused_in f (rule_at a.at) (section_at i)) 5 r a.gives in
+      let c = least (refused_at f (rule_at a.at) (section_at b.at)) (count_in f (section_at b.at)) r b.gives in
+      let t = taken (offends f (rule_at a.at) (section_at b.at) c.at) _ r c.gives in
+      subst (First f) (ap (unsome r) t.1) (made a.at b.at c.at a.low b.low c.low t.0 a.before b.before c.before)
 
-  right_when : Quiet f l → Right f l
+  right_when : Quiet f → Right f
   right_when q = record {
     ranges = q Range;
     uses = record {
-      commands = λ n h. not_differ (command_used f l n) 1 (or_parts (differ (command_used f l n) 1) (command_high (command_at f l n) n) (q Use Commands n h)).0;
-      parts = λ n h. (or_parts (differ (command_used f l n) 1) (command_high (command_at f l n) n) (q Use Commands n h)).1;
-      expressions = λ n h. not_differ (expr_used f l n) 1 (or_parts (differ (expr_used f l n) 1) (expr_high (expression_at f l n) n) (q Use Expressions n h)).0;
-      operands = λ n h. (or_parts (differ (expr_used f l n) 1) (expr_high (expression_at f l n) n) (q Use Expressions n h)).1;
+      commands = λ n h. not_differ (command_used f n) 1 (or_parts (differ (command_used f n) 1) (command_high (command_at f n) n) (q Use Commands n h)).0;
+      parts = λ n h. (or_parts (differ (command_used f n) 1) (command_high (command_at f n) n) (q Use Commands n h)).1;
+      expressions = λ n h. not_differ (expr_used f n) 1 (or_parts (differ (expr_used f n) 1) (expr_high (expression_at f n) n) (q Use Expressions n h)).0;
+      operands = λ n h. (or_parts (differ (expr_used f n) 1) (expr_high (expression_at f n) n) (q Use Expressions n h)).1;
     };
-    ordered = λ b c lt h s. not_not (settled_at f l b) (any_false_at (clocked_at f l) c b (second (settled_at f l c) (any (clocked_at f l) c) (q Assignment Blocks c h) s) lt);
-    formed = formed f l q;
+    ordered = λ b c lt h s. not-false (settled_at f b) (any_false_at (clocked_at f) c b (second (settled_at f c) (any (clocked_at f) c) (q Assignment Blocks c h) s) lt);
+    formed = formed f q;
   }
 
-  pub says : Says f l (form_refusal f l)
-  says = by (form_refusal f l) refl
+  says : Says f (form_refusal f)
+  says = by (form_refusal f) refl
     where
-      by : (o : Option Refusal) → form_refusal f l ≡ o → Says f l o
+      by : (o : Option Refusal) → form_refusal f ≡ o → Says f o
       by None e = right_when (quiet_when e)
-      by (Some r) e = let x = first_is r e in (x, λ right. true≢false (sym x.offender ∙ quiet_back f l right x.rule x.section x.place x.inside))
+      by (Some r) e = let x = first_is r e in (x, λ right. true≢false (sym x.offender ∙ quiet_back f right x.rule x.section x.place x.inside))
 
 -- a file whose layout stands, refused by a record
 abbrev layout_in : Layout → Result Layout Refusal → Layout
 layout_in l (Ok m) = m
 layout_in l (Err r) = l
 
-pub refused_by_first : (f : List ℕ) (l : Layout) (r : Refusal) → layout_of f ≡ Ok l → Says f l (Some r) → Refused f r
-refused_by_first f l r e x = record {
-  first = inr (l, e, x.0);
-  not_accepted = λ m a. x.1 (subst (Right f) (ap (layout_in l) (sym a.layout ∙ e)) a.right);
+refused_by_first : (f : File) (r : Refusal) → layout_of f.bytes ≡ Ok f.layout → Says f (Some r) → Refused f.bytes r
+refused_by_first f r e x = record {
+  first = inr (f.layout, e, x.0);
+  not_accepted = λ m a. x.1 (subst (λ l. Right (under f.bytes l)) (ap (layout_in f.layout) (sym a.layout ∙ e)) a.right);
 }
+
+-- what the check of a file's records tells
+pub tells : (f : File) (r : Result (Unit {0}) Refusal) → r ≡ checked (form_refusal f) → MatchResult r (λ _. Right f) (λ e. layout_of f.bytes ≡ Ok f.layout → Refused f.bytes e)
+tells f r is = subst (λ x. MatchResult x (λ _. Right f) (λ e. layout_of f.bytes ≡ Ok f.layout → Refused f.bytes e)) (sym is) (by (form_refusal f) (says f))
+  where
+    by : (o : Option Refusal) → Says f o → MatchResult (checked o) (λ _. Right f) (λ e. layout_of f.bytes ≡ Ok f.layout → Refused f.bytes e)
+    by None right = right
+    by (Some e) first = λ stands. refused_by_first f e stands first

@@ -1,12 +1,12 @@
 -- Blocks one after the other: what they assign.
-use Rattle.std.proofs.Common.{◌≡◌, ℕ, zero, suc, ◌<◌, true, false, ◌&&◌, ◌||◌, List, sym, refl, ◌∙◌, subst, ⊎_elim, true≢false, arith}
+use Rattle.std.proofs.Common.{◌≡◌, ℕ, zero, suc, ◌<◌, true, false, ◌&&◌, ◌||◌, sym, refl, ◌∙◌, subst, ⊎_elim, true≢false, arith}
 use Rattle.std.proofs.lemmas.Bool.{cases_lt, cases_Bool, or_parts, or_cases, or_left, or_right, and_parts, and_from}
-use Rattle.records.specs.declared.layout.Layout.{Layout}
 use Rattle.language.specs.Syntax.{Cmd, idle, seq, choice, assign}
 use Rattle.language.specs.Form.{assigns, always, Apart}
 use Rattle.records.specs.Trees.{body_at}
 use Rattle.survey.specs.Walks.{twice, blocks_to}
 use Rattle.design.proofs.Fits.{second}
+use Rattle.records.specs.Layouts.{File}
 
 pub always_assigns : (c : Cmd) (v : ℕ) → always c v ≡ true → assigns c v ≡ true
 always_assigns idle v e = e
@@ -47,78 +47,78 @@ apart_from (choice x a b) h =
     (apart_from a (λ v. (or_parts (twice a v) (twice b v) (h v)).0), apart_from b (λ v. (or_parts (twice a v) (twice b v) (h v)).1))
 apart_from (assign u x k) h = tt
 
-module _ (f : List ℕ) (l : Layout) where
-  pub assigns_more : (n v : ℕ) → assigns (blocks_to f l (suc n)) v ≡ (assigns (blocks_to f l n) v || assigns (body_at f l n) v)
+module _ (f : File) where
+  pub assigns_more : (n v : ℕ) → assigns (blocks_to f (suc n)) v ≡ (assigns (blocks_to f n) v || assigns (body_at f n) v)
   unfolding blocks_to
   assigns_more n v = refl
 
-  pub assigns_none : (v : ℕ) → assigns (blocks_to f l 0) v ≡ false
+  pub assigns_none : (v : ℕ) → assigns (blocks_to f 0) v ≡ false
   unfolding blocks_to
   assigns_none v = refl
 
-  pub before_assigns : (c b v : ℕ) → b < c → assigns (body_at f l b) v ≡ true → assigns (blocks_to f l c) v ≡ true
+  pub before_assigns : (c b v : ℕ) → b < c → assigns (body_at f b) v ≡ true → assigns (blocks_to f c) v ≡ true
   before_assigns zero b v lt h = absurd (omega arith)
   before_assigns (suc c) b v lt h =
       assigns_more c v ∙
       ⊎_elim
-      (λ below. or_left (assigns (blocks_to f l c) v) (assigns (body_at f l c) v) (before_assigns c b v below h))
-      (λ ge. let z : b ≡ c = omega arith in or_right (assigns (blocks_to f l c) v) (assigns (body_at f l c) v) (subst (λ k. assigns (body_at f l k) v ≡ true) z h))
+      (λ below. or_left (assigns (blocks_to f c) v) (assigns (body_at f c) v) (before_assigns c b v below h))
+      (λ ge. let z : b ≡ c = omega arith in or_right (assigns (blocks_to f c) v) (assigns (body_at f c) v) (subst (λ k. assigns (body_at f k) v ≡ true) z h))
       (cases_lt b c)
 
-  pub once : (n b v : ℕ) → b < n → twice (blocks_to f l n) v ≡ false → ((assigns (blocks_to f l b) v && assigns (body_at f l b) v) ≡ false) × (twice (body_at f l b) v ≡ false)
+  pub once : (n b v : ℕ) → b < n → twice (blocks_to f n) v ≡ false → ((assigns (blocks_to f b) v && assigns (body_at f b) v) ≡ false) × (twice (body_at f b) v ≡ false)
   unfolding blocks_to
   once zero b v lt e = absurd (omega arith)
   once (suc n) b v lt e =
-      let s = or_parts (assigns (blocks_to f l n) v && assigns (body_at f l n) v) (twice (blocks_to f l n) v || twice (body_at f l n) v) e in
-      let t = or_parts (twice (blocks_to f l n) v) (twice (body_at f l n) v) s.1 in
+      let s = or_parts (assigns (blocks_to f n) v && assigns (body_at f n) v) (twice (blocks_to f n) v || twice (body_at f n) v) e in
+      let t = or_parts (twice (blocks_to f n) v) (twice (body_at f n) v) s.1 in
       ⊎_elim
       (λ below. once n b v below t.0)
-      (λ ge. let z : n ≡ b = omega arith in subst (λ k. ((assigns (blocks_to f l k) v && assigns (body_at f l k) v) ≡ false) × (twice (body_at f l k) v ≡ false)) z (s.0, t.1))
+      (λ ge. let z : n ≡ b = omega arith in subst (λ k. ((assigns (blocks_to f k) v && assigns (body_at f k) v) ≡ false) × (twice (body_at f k) v ≡ false)) z (s.0, t.1))
       (cases_lt b n)
 
-  not_both : (n b c v : ℕ) → c < n → twice (blocks_to f l n) v ≡ false → b < c → assigns (body_at f l b) v ≡ true → assigns (body_at f l c) v ≡ true → ⊥
+  not_both : (n b c v : ℕ) → c < n → twice (blocks_to f n) v ≡ false → b < c → assigns (body_at f b) v ≡ true → assigns (body_at f c) v ≡ true → ⊥
   not_both n b c v cn e lt hb hc =
-      true≢false (sym (and_from (assigns (blocks_to f l c) v) (assigns (body_at f l c) v) (before_assigns c b v lt hb) hc) ∙ (once n c v cn e).0)
+      true≢false (sym (and_from (assigns (blocks_to f c) v) (assigns (body_at f c) v) (before_assigns c b v lt hb) hc) ∙ (once n c v cn e).0)
 
   -- one block assigns v
-  pub only : (n b c v : ℕ) → twice (blocks_to f l n) v ≡ false → b < n → c < n → assigns (body_at f l b) v ≡ true → assigns (body_at f l c) v ≡ true → b ≡ c
+  pub only : (n b c v : ℕ) → twice (blocks_to f n) v ≡ false → b < n → c < n → assigns (body_at f b) v ≡ true → assigns (body_at f c) v ≡ true → b ≡ c
   only n b c v e bn cn hb hc =
       ⊎_elim
       (λ lt. absurd (not_both n b c v cn e lt hb hc))
       (λ ge. ⊎_elim (λ lt. absurd (not_both n c b v bn e lt hc hb)) (λ le. let z : b ≡ c = omega arith in z) (cases_lt c b))
       (cases_lt b c)
 
-  pub always_in : (n v : ℕ) → always (blocks_to f l n) v ≡ true → (b : ℕ) × (b < n) × (always (body_at f l b) v ≡ true)
+  pub always_in : (n v : ℕ) → always (blocks_to f n) v ≡ true → (b : ℕ) × (b < n) × (always (body_at f b) v ≡ true)
   unfolding blocks_to
   always_in zero v e = absurd (true≢false (sym e))
   always_in (suc n) v e =
       ⊎_elim
       (λ h. let r = always_in n v h in (r.0, omega (arith, r.1), r.2))
       (λ h. (n, omega arith, h))
-      (or_cases (always (blocks_to f l n) v) (always (body_at f l n) v) e)
+      (or_cases (always (blocks_to f n) v) (always (body_at f n) v) e)
 
   -- a block that assigns what no block before it does
-  pub fresh : (n b v : ℕ) → b < n → twice (blocks_to f l n) v ≡ false → assigns (body_at f l b) v ≡ true → assigns (blocks_to f l b) v ≡ false
+  pub fresh : (n b v : ℕ) → b < n → twice (blocks_to f n) v ≡ false → assigns (body_at f b) v ≡ true → assigns (blocks_to f b) v ≡ false
   fresh n b v lt e h =
       ⊎_elim
-      (λ t. absurd (true≢false (sym (and_from (assigns (blocks_to f l b) v) (assigns (body_at f l b) v) t h) ∙ (once n b v lt e).0)))
+      (λ t. absurd (true≢false (sym (and_from (assigns (blocks_to f b) v) (assigns (body_at f b) v) t h) ∙ (once n b v lt e).0)))
       (λ z. z)
-      (cases_Bool (assigns (blocks_to f l b) v))
+      (cases_Bool (assigns (blocks_to f b) v))
 
-  pub always_before : (n c v : ℕ) → c < n → always (body_at f l c) v ≡ true → always (blocks_to f l n) v ≡ true
+  pub always_before : (n c v : ℕ) → c < n → always (body_at f c) v ≡ true → always (blocks_to f n) v ≡ true
   unfolding blocks_to
   always_before zero c v lt h = absurd (omega arith)
   always_before (suc n) c v lt h =
       ⊎_elim
-      (λ below. or_left (always (blocks_to f l n) v) (always (body_at f l n) v) (always_before n c v below h))
-      (λ ge. let z : c ≡ n = omega arith in or_right (always (blocks_to f l n) v) (always (body_at f l n) v) (subst (λ k. always (body_at f l k) v ≡ true) z h))
+      (λ below. or_left (always (blocks_to f n) v) (always (body_at f n) v) (always_before n c v below h))
+      (λ ge. let z : c ≡ n = omega arith in or_right (always (blocks_to f n) v) (always (body_at f n) v) (subst (λ k. always (body_at f k) v ≡ true) z h))
       (cases_lt c n)
 
-  pub blocks_some : (n v : ℕ) → assigns (blocks_to f l n) v ≡ true → (c : ℕ) × (c < n) × (assigns (body_at f l c) v ≡ true)
+  pub blocks_some : (n v : ℕ) → assigns (blocks_to f n) v ≡ true → (c : ℕ) × (c < n) × (assigns (body_at f c) v ≡ true)
   unfolding blocks_to
   blocks_some zero v e = absurd (true≢false (sym e))
   blocks_some (suc n) v e =
       ⊎_elim
       (λ h. let r = blocks_some n v h in (r.0, omega (arith, r.1), r.2))
       (λ h. (n, omega arith, h))
-      (or_cases (assigns (blocks_to f l n) v) (assigns (body_at f l n) v) e)
+      (or_cases (assigns (blocks_to f n) v) (assigns (body_at f n) v) e)

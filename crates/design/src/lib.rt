@@ -3,86 +3,45 @@
 
 ghost use Rattle.std.specs.Prelude.{◌≡◌, IfOk, Ok, Err, MatchResult};
 ghost use Rattle.records.specs.Layouts.{layout_of};
-ghost use Rattle.design.specs.First.{rule_at, form_refusal, checked, read_of};
-ghost use Rattle.design.specs.Right.{Right, Accepted, Refused, Says};
+ghost use Rattle.rules.specs.First.{form_refusal, checked};
+ghost use Rattle.design.specs.First.{read_of};
+ghost use Rattle.design.specs.Right.{Right, Accepted, Refused};
 
-use records::{Layout, layout_of};
+use records::DesignFile;
 use refusal::Refusal;
-use rules::{Rule, first_by};
+use rules::check_rules;
 
-/// A design whose form was checked: its file, and where the sections lie.
+/// A design file whose form was checked.
 #[derive(Drop)]
 pub struct Formed<'a> {
-    file: &'a [u8],
-    layout: Layout,
+    file: DesignFile<'a>,
 }
 
 impl<'a> Formed<'a> {
-    pub fn file(&self) -> &'a [u8]
-        ensures { result.now ≡ self.now.file.now }
+    /// The file, with the layout that was found.
+    pub fn file(&self) -> &DesignFile<'a>
+        ensures { result.now ≡ self.now.file }
     {
-        self.file
+        &self.file
     }
-
-    pub fn layout(&self) -> Layout
-        ensures { result ≡ self.now.layout }
-    {
-        self.layout
-    }
-}
-
-// How many rules there are.
-const RULE_COUNT: u32 = 6;
-
-// The rules by the numbers of their refusals.
-fn rule_at(k: u32) -> Rule
-    ensures { result ≡ rule_at k }
-{
-    match k {
-        0 => Rule::Range,
-        1 => Rule::Use,
-        2 => Rule::Width,
-        3 => Rule::Assignment,
-        4 => Rule::Reading,
-        _ => Rule::Selector,
-    }
-}
-
-// The first record that breaks any rule.
-fn first_refusal(file: &[u8], l: Layout) -> Option<Refusal>
-    ensures is { result ≡ form_refusal file.now l }
-    ensures says { Says file.now l result }
-{
-    for k in 0..RULE_COUNT {
-        match first_by(file, l, rule_at(k)) {
-            Some(r) => return Some(r),
-            None => {}
-        }
-    }
-    None
 }
 
 // Refuses a file by its records.
-fn check_form(file: &[u8], l: Layout) -> Result<(), Refusal>
-    ensures is { result ≡ checked (form_refusal file.now l) }
-    ensures says { MatchResult result (λ _. Right file.now l) (λ e. layout_of file.now ≡ Ok l → Refused file.now e) }
+#[tactic(auto, using(crate::proofs::Firsts::tells))]
+fn check_form(file: &DesignFile<'_>) -> Result<(), Refusal>
+    ensures is { result ≡ checked (form_refusal file.now) }
+    ensures says { MatchResult result (λ _. Right file.now) (λ e. layout_of file.now.bytes ≡ Ok file.now.layout → Refused file.now.bytes e) }
 {
-    match first_refusal(file, l) {
-        Some(r) => Err(r),
-        None => Ok(()),
-    }
+    check_rules(file)
 }
 
 /// Reads a design and checks its form, or gives the first refusal.
 pub fn read_design(bytes: &[u8]) -> Result<Formed<'_>, Refusal>
-    ensures answer { MatchResult result (λ d. read_of bytes.now ≡ Ok d.layout) (λ e. read_of bytes.now ≡ Err e) }
-    ensures exact { MatchResult result (λ d. Accepted bytes.now d.layout) (λ e. Refused bytes.now e) }
-    ensures file { IfOk result (λ d. d.file.now ≡ bytes.now) }
+    ensures answer { MatchResult result (λ d. read_of bytes.now ≡ Ok d.file.layout) (λ e. read_of bytes.now ≡ Err e) }
+    ensures exact { MatchResult result (λ d. Accepted d.file) (λ e. Refused bytes.now e) }
+    ensures file { IfOk result (λ d. d.file.bytes ≡ bytes.now) }
 {
-    let layout = layout_of(bytes)?;
-    check_form(bytes, layout)?;
-    Ok(Formed {
-        file: bytes,
-        layout,
-    })
+    let file = DesignFile::open(bytes)?;
+    check_form(&file)?;
+    Ok(Formed { file })
 }

@@ -12,16 +12,18 @@ use Rattle.language.specs.Offences.{Shown}
 use Rattle.language.proofs.Lists.{all_from, all_at}
 use Rattle.language.proofs.Places.{small_value}
 use Rattle.language.proofs.Mentions.{flow_mem, mem_flow}
-use Rattle.records.specs.declared.layout.Layout.{Layout}
 use Rattle.records.specs.Trees.{design_of}
 use Rattle.records.proofs.Designs.{count_is}
 use Rattle.paths.specs.declared.path.Path.{Path}
-use Rattle.paths.specs.Marks.{sets_of, flags_of, Tracks}
+use Rattle.variables.specs.declared.sets.VariableSet.{VariableSet}
+use Rattle.variables.specs.Variables.{has}
+use Rattle.paths.specs.Marks.{sets_of, Tracks}
 use Rattle.flows.specs.Findings.{Exposes, ReadsInside}
+use Rattle.records.specs.Layouts.{File}
 
 -- a design of a file has at most 128 variables
-pub few : (f : List ℕ) (l : Layout) → count (design_of f l) ≤ 128
-few f l = omega (arith, count_is f l)
+pub few : (f : File) → count (design_of f) ≤ 128
+few f = omega (arith, count_is f)
 
 -- ---- sets that agree on what is ever asked
 
@@ -55,17 +57,17 @@ same_all_under m d most s t agree f g alike q h possible v i k x y a b o =
 
 -- ---- one assignment
 
-module _ (m : Meaning) (d : Design) (most : count d ≤ 128) (ways : List Way) (path : Path) (flow : List Bool) (tracks : Tracks ways path) (e : Expr)
-    (flows : (v : ℕ) → v < 128 → flags_of flow v ≡ (mentions e v || flags_of path.variables v)) (u : ℕ) where
-  alike : (v : ℕ) → v < 128 → flags_of flow v ≡ (mentions e v || among ways v)
+module _ (m : Meaning) (d : Design) (most : count d ≤ 128) (ways : List Way) (path : Path) (flow : VariableSet) (tracks : Tracks ways path) (e : Expr)
+    (flows : (v : ℕ) → v < 128 → has flow v ≡ (mentions e v || has path.variables v)) (u : ℕ) where
+  alike : (v : ℕ) → v < 128 → has flow v ≡ (mentions e v || among ways v)
   alike v h = flows v h ∙ ap (λ b. mentions e v || b) (tracks.variables v h)
 
-  pub assignment_passes : (q : Place) → q ≡ target_place d u (shape e) → AllUnder m d (sets_of path.values) (flags_of flow) q → Test13 m d ways u e
+  pub assignment_passes : (q : Place) → q ≡ target_place d u (shape e) → AllUnder m d (sets_of path.values) (has flow) q → Test13 m d ways u e
   assignment_passes q is h =
       subst (AllUnder m d (allows ways) (λ v. mentions e v || among ways v)) is
-      (same_all_under m d most (sets_of path.values) (allows ways) tracks.values (flags_of flow) (λ v. mentions e v || among ways v) alike q h)
+      (same_all_under m d most (sets_of path.values) (allows ways) tracks.values (has flow) (λ v. mentions e v || among ways v) alike q h)
 
-  pub exposed_shown : (a b : ℕ) → Exposes m d (sets_of path.values) (flags_of flow) u (shape e) a b → ReadsInside d ways e → Shown m d a b ways u e
+  pub exposed_shown : (a b : ℕ) → Exposes m d (sets_of path.values) (has flow) u (shape e) a b → ReadsInside d ways e → Shown m d a b ways u e
   exposed_shown a b x inner =
       let vs = sources e ++ around ways in
       let at = level d x.values in

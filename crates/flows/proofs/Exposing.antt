@@ -1,16 +1,15 @@
 -- The values and levels that are shown.
-use Rattle.std.proofs.Common.{◌≡◌, ℕ, ◌+◌, ◌^◌, ◌<◌, ◌≤◌, Bool, true, false, List, length, get_or, sym, ap, ◌∙◌, subst, ⊎_elim, arith, pow_pos, below_more}
-use Rattle.std.proofs.lemmas.Bool.{ltb-true, both_ways, cases_lt, cases_Bool}
-use Rattle.std.proofs.lemmas.List.{get_or_past}
+use Rattle.std.proofs.Common.{◌≡◌, ℕ, ◌+◌, ◌^◌, ◌<◌, ◌≤◌, Bool, true, false, sym, refl, ap, ◌∙◌, subst, ⊎_elim, arith, below_more}
+use Rattle.std.proofs.lemmas.Bool.{ltb-true, both_ways, cases_Bool}
 use Rattle.lattice.specs.Meaning.{Meaning, Below, Laws, Lowest, Joins}
 use Rattle.language.specs.Syntax.{Design, count, var}
 use Rattle.language.specs.Machine.{Valuation, level}
 use Rattle.language.specs.Typing.{Levelled, Shape}
-use Rattle.language.specs.Finite.{Sets, May, Possible, Place, always_at, value_of, any_of, label_place, target_place, Tries, One, level_at}
+use Rattle.language.specs.Finite.{Sets, Possible, Place, always_at, value_of, any_of, label_place, target_place, Tries, One, level_at}
 use Rattle.language.proofs.Levels.{level_is_level}
-use Rattle.language.proofs.Places.{Stands, fill_fits, fill_kept, fill_stands, still_stands, stands_level, some_coming}
+use Rattle.language.proofs.Places.{Stands, fill, fill_fits, fill_kept, fill_stands, still_stands, stands_level, some_coming}
 use Rattle.flows.specs.declared.offences.Offence.{Offence}
-use Rattle.flows.specs.Findings.{Suited, JoinBelow, Looks, filled, values_of, Offends, Exposes}
+use Rattle.flows.specs.Findings.{Suited, JoinBelow, Looks, filled, Offends, Exposes}
 
 module _ (m : Meaning) (laws : Laws m) (d : Design) (levelled : Levelled m d) (ρ : Valuation) (flow : ℕ → Bool) where
   pub join_none : (r : ℕ) → Lowest m r → JoinBelow m d ρ flow 0 r
@@ -36,16 +35,6 @@ module _ (m : Meaning) (laws : Laws m) (d : Design) (levelled : Levelled m d) (�
     least = λ t h all. j.least t h (λ v k f. all v (omega arith) f);
   }
 
--- values chosen for all 128 numbers
-pub chosen_suited : (d : Design) (sets : Sets) (xs : List ℕ) → count d ≤ 128 → length xs ≡ 128
-    → ((k : ℕ) → k < 128 → get_or xs k 0 < 2 ^ (var d k).width)
-    → ((k x : ℕ) → k < 128 → May d sets k x → May d sets k (get_or xs k 0))
-    → Possible d sets → Suited d sets (values_of xs)
-chosen_suited d sets xs most long fits left possible = record {
-  fits = λ v. ⊎_elim (λ h. fits v h) (λ (h : 128 ≤ v). subst (λ z. z < 2 ^ (var d v).width) (sym (get_or_past xs v 0 (omega (arith, long, h)))) (pow_pos (var d v).width)) (cases_lt v 128);
-  kept = λ v i n. (left v (possible v i n).0 (omega (arith, ltb-true v (count d) i, most)) (possible v i n).1).left;
-}
-
 -- ---- a valuation with given values at a place
 
 looks : (d : Design) (sets : Sets) → count d ≤ 128 → (p : Place) (x : ℕ) → Tries d sets p x → Looks p
@@ -66,20 +55,11 @@ module _ (d : Design) (sets : Sets) (ρ σ : Valuation) (same : (v : ℕ) → σ
   same_stands (value_of t s) x h = h ∙ sym (same s)
   same_stands (any_of t w) x h = tt
 
-filled_suited : (d : Design) (sets : Sets) (p : Place) (ρ : Valuation) (x : ℕ) → Tries d sets p x → Suited d sets ρ → Suited d sets (filled p ρ x)
-filled_suited d sets (always_at l) ρ x h s = s
-filled_suited d sets (value_of t r) ρ x h s = record { fits = fill_fits d sets (value_of t r) ρ x h s.fits; kept = fill_kept d sets (value_of t r) ρ x h s.kept }
-filled_suited d sets (any_of t w) ρ x h s = s
-
-filled_stands : (p : Place) (ρ : Valuation) (x : ℕ) → Stands (filled p ρ x) p x
-filled_stands (always_at l) ρ x = tt
-filled_stands (value_of t s) ρ x = fill_stands (value_of t s) ρ x
-filled_stands (any_of t w) ρ x = tt
-
-filled_still : (p q : Place) (ρ : Valuation) (x y : ℕ) → One p q x y → Stands ρ p x → Stands (filled q ρ y) p x
-filled_still p (always_at l) ρ x y o h = h
-filled_still p (value_of t s) ρ x y o h = still_stands p (value_of t s) ρ x y o h
-filled_still p (any_of t w) ρ x y o h = h
+-- what is put where a place looks is filled in there
+filled_is : (p : Place) (ρ : Valuation) (x v : ℕ) → filled p ρ x v ≡ fill p ρ x v
+filled_is (always_at l) ρ x v = refl
+filled_is (value_of t s) ρ x v = refl
+filled_is (any_of t w) ρ x v = refl
 
 -- base is filled in at p, and then at q
 module _ (m : Meaning) (laws : Laws m) (d : Design) (most : count d ≤ 128) (sets : Sets) (flow : ℕ → Bool) (u : ℕ) (e : Shape)
@@ -94,13 +74,16 @@ module _ (m : Meaning) (laws : Laws m) (d : Design) (most : count d ≤ 128) (se
       let tries_p : Tries d sets p x = subst (λ z. Tries d sets z x) (sym is_p) o.clash.first in
       let tries_q : Tries d sets q y = subst (λ z. Tries d sets z y) (sym is_q) o.clash.second in
       let together : One p q x y = subst (λ z. One z q x y) (sym is_p) (subst (λ z. One (label_place (var d v).label) z x y) (sym is_q) o.clash.one) in
-      let same_one = first (looks d sets most p x tries_p) in
-      let same_two = second (looks d sets most q y tries_q) in
-      let suited_one : Suited d sets one = same_suited d sets (filled p base x) one same_one (filled_suited d sets p base x tries_p (suited o.possible)) in
-      let suited_two : Suited d sets two = same_suited d sets (filled q one y) two same_two (filled_suited d sets q one y tries_q suited_one) in
-      let stands_one : Stands one p x = same_stands d sets (filled p base x) one same_one p x (filled_stands p base x) in
-      let stands_p : Stands two p x = same_stands d sets (filled q one y) two same_two p x (filled_still p q one x y together stands_one) in
-      let stands_q : Stands two q y = same_stands d sets (filled q one y) two same_two q y (filled_stands q one y) in
+      let same_one : (k : ℕ) → one k ≡ fill p base x k = λ k. first (looks d sets most p x tries_p) k ∙ filled_is p base x k in
+      let same_two : (k : ℕ) → two k ≡ fill q one y k = λ k. second (looks d sets most q y tries_q) k ∙ filled_is q one y k in
+      let at_first = suited o.possible in
+      let suited_one : Suited d sets one = same_suited d sets (fill p base x) one same_one
+      (record { fits = fill_fits d sets p base x tries_p at_first.fits; kept = fill_kept d sets p base x tries_p at_first.kept }) in
+      let suited_two : Suited d sets two = same_suited d sets (fill q one y) two same_two
+      (record { fits = fill_fits d sets q one y tries_q suited_one.fits; kept = fill_kept d sets q one y tries_q suited_one.kept }) in
+      let stands_one : Stands one p x = same_stands d sets (fill p base x) one same_one p x (fill_stands p base x) in
+      let stands_p : Stands two p x = same_stands d sets (fill q one y) two same_two p x (still_stands p q one x y together stands_one) in
+      let stands_q : Stands two q y = same_stands d sets (fill q one y) two same_two q y (fill_stands q one y) in
       let c = some_coming d sets two u y e o.clash.second (subst (λ z. Stands two z y) is_q stands_q) in
       let here : level d two v ≡ level_at d (label_place (var d v).label) x = stands_level d two (var d v).label x (subst (λ z. Stands two z x) is_p stands_p) in
       let goal : b ≡ level_at d (target_place d u e) y = is_b ∙ ap (λ z. level_at d z y) is_q in

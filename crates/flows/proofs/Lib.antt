@@ -1,2 +1,3 @@
 pub mod Alike
 pub mod Exposing
+pub mod Searches

@@ -1,5 +1,5 @@
 -- What the tests of one assignment find, and what is shown of a leak.
-use Rattle.std.specs.Prelude.{◌≡◌, ℕ, ◌<◌, ◌≤◌, Bool, true, false, List, ◌++◌, Option, MatchOption, slice_index}
+use Rattle.std.specs.Prelude.{◌≡◌, ℕ, ◌<◌, ◌≤◌, Bool, true, false, List, ◌++◌, Result, MatchResult}
 use Rattle.lattice.specs.Meaning.{Meaning, Below, All}
 use Rattle.language.specs.Syntax.{Expr, Cmd, Design, count, var}
 use Rattle.language.specs.Machine.{Valuation, put, level, inside}
@@ -16,6 +16,11 @@ pub record Clash (m : Meaning) (d : Design) (sets : Sets) (p q : Place) (x y : �
   pub second : Tries d sets q y
   pub one : One p q x y
   pub apart : m.below (level_at d p x) (level_at d q y) ≡ false
+
+-- variable v is not under q, as the values show
+pub record Clashes (m : Meaning) (d : Design) (sets : Sets) (q : Place) (v : ℕ) (o : Offence) : Type 0 where
+  pub variable : v ≡ o.variable
+  pub clash : Clash m d sets (label_place (var d v).label) q o.x o.y
 
 -- a variable of a flow is not under q
 pub record Offends (m : Meaning) (d : Design) (sets : Sets) (flow : ℕ → Bool) (q : Place) (o : Offence) : Type 0 where
@@ -34,13 +39,10 @@ pub record Breach (m : Meaning) (d : Design) (b : Leak) (path : List Way) (u : �
   pub shown : ReadsInside d path e → Shown m d b.flow b.target path u e
 
 -- what a walk over a command finds
-abbrev pub Walked : Meaning → Design → Option Leak → List Way → Cmd → Type 0
-Walked m d r path c = MatchOption r (Each Anything (Test13 m d) path c) (λ b. SomeAt (Breach m d b) path c)
+abbrev pub Walked : Meaning → Design → Result (Unit {0}) Leak → List Way → Cmd → Type 0
+Walked m d r path c = MatchResult r (λ _. Each Anything (Test13 m d) path c) (λ b. SomeAt (Breach m d b) path c)
 
 -- ---- values that are shown
-
-abbrev pub values_of : List ℕ → Valuation
-values_of xs v = slice_index xs v
 
 -- each value fits its variable, and the sets leave it
 pub record Suited (d : Design) (sets : Sets) (ρ : Valuation) : Type 0 where

@@ -1,5 +1,5 @@
 //! Assignments that break rule 13.
-ghost use Rattle.std.specs.Prelude.{List, MatchOption};
+ghost use Rattle.std.specs.Prelude.{List, MatchResult};
 ghost use Rattle.language.specs.Form.{Way};
 ghost use Rattle.language.specs.Typing.{Levelled};
 ghost use Rattle.language.specs.Finite.{Test13};
@@ -7,11 +7,12 @@ ghost use Rattle.records.specs.Trees.{design_of, expr_at, cmd_at};
 ghost use Rattle.paths.specs.Marks.{Tracks};
 ghost use Rattle.flows.specs.Findings.{Breach, Walked};
 
-use crate::offences::find_offence;
-use crate::showing::shown_levels;
+use crate::offences::Flow;
+use crate::tester::Tester;
 use lattice::Lattice;
-use paths::{Path, gathered, shape_of, target_origin};
-use records::{Action, Layout, action_at};
+use paths::{Origin, Path, gathered, shape_of};
+use records::Action;
+use refusal::Refusal;
 
 /// A command that breaks rule 13, with a level of its flow and of its target.
 #[derive(Clone, Copy)]
@@ -21,67 +22,61 @@ pub struct Leak {
     pub target: u32,
 }
 
-// Looks for a leak in command `n`, which assigns expression `e` to `u`.
-fn check_assignment<L: Lattice>(
-    file: &[u8],
-    l: Layout,
-    lattice: &L,
-    path: &Path,
-    n: u32,
-    u: u32,
-    e: u32,
-) -> Option<Leak>
-    ensures { (ways : List Way) → Tracks ways path.now → Levelled (L.meaning lattice.now) (design_of file.now l) → MatchOption result
-        (Test13 (L.meaning lattice.now) (design_of file.now l) ways u (expr_at file.now l e))
-        (λ b. Breach (L.meaning lattice.now) (design_of file.now l) b ways u (expr_at file.now l e) n) }
-{
-    let flow = gathered(file, l, e, &path.variables);
-    let shape = shape_of(file, l, e);
-    let target = target_origin(file, l, u, shape);
-    match find_offence(file, l, lattice, &path.values, &flow, target) {
-        None => None,
-        Some(o) => {
-            let (level, goal) = shown_levels(file, l, lattice, &path.values, &flow, u, shape, o);
-            Some(Leak {
-                command: n,
-                flow: level,
-                target: goal,
-            })
+impl From<Leak> for Refusal {
+    ghost use Rattle.std.specs.Prelude.{◌≡◌};
+    ghost use Rattle.refusal.specs.declared.Refusal.TheVariants.{FlowTooHigh};
+
+    ghost from_gives = { λ leak refusal. refusal ≡ FlowTooHigh leak.command leak.flow leak.target };
+
+    fn from(leak: Leak) -> Refusal {
+        Refusal::FlowTooHigh {
+            command: leak.command,
+            flow: leak.flow,
+            target: leak.target,
         }
     }
 }
 
-/// Looks for a leak in command `n`, which a path leads to.
-pub fn find_leak<L: Lattice>(
-    file: &[u8],
-    l: Layout,
-    lattice: &L,
-    path: &Path,
-    n: u32,
-) -> Option<Leak>
-    ensures { (ways : List Way) → Tracks ways path.now → Levelled (L.meaning lattice.now) (design_of file.now l)
-        → Walked (L.meaning lattice.now) (design_of file.now l) result ways (cmd_at file.now l n) }
-{
-    match action_at(file, l, n) {
-        Action::Idle => None,
-        Action::Both { first, second } => {
-            if let Some(leak) = find_leak(file, l, lattice, path, first) {
-                return Some(leak);
-            }
-            find_leak(file, l, lattice, path, second)
+impl<'a, L: Lattice> Tester<'a, L> {
+    // Checks rule 13 for command `n`, which assigns expression `e` to `u`.
+    fn check_assignment(&self, path: &Path, n: u32, u: u32, e: u32) -> Result<(), Leak>
+        ensures { let m = L.meaning self.now.lattice.now in let d = design_of self.now.file.now in let assigned = expr_at self.now.file.now e in
+            (ways : List Way) → Tracks ways path.now → Levelled m d → MatchResult result (λ _. Test13 m d ways u assigned) (λ b. Breach m d b ways u assigned n) }
+    {
+        let variables = gathered(self.file, e, &path.variables);
+        let flow = Flow {
+            values: &path.values,
+            variables: &variables,
+        };
+        let target = Origin::of_target(self.file, u, shape_of(self.file, e));
+        match self.find_offence(flow, target) {
+            Some(offence) => Err(self.shown_leak(n, flow, target, offence)),
+            None => Ok(()),
         }
-        Action::Choose { condition, yes, no } => {
-            let on = path.past(file, l, condition, true);
-            if let Some(leak) = find_leak(file, l, lattice, &on, yes) {
-                return Some(leak);
+    }
+
+    /// Checks rule 13 for command `n`, which a path leads to, and gives the first leak that it meets.
+    pub fn check_command(&self, path: &Path, n: u32) -> Result<(), Leak>
+        ensures { let m = L.meaning self.now.lattice.now in let d = design_of self.now.file.now in
+            (ways : List Way) → Tracks ways path.now → Levelled m d → Walked m d result ways (cmd_at self.now.file.now n) }
+    {
+        match self.file.action(n) {
+            Action::Idle => Ok(()),
+            Action::Both { first, second } => {
+                self.check_command(path, first)?;
+                self.check_command(path, second)
             }
-            let off = path.past(file, l, condition, false);
-            find_leak(file, l, lattice, &off, no)
+            Action::Choose { condition, yes, no } => {
+                let on = path.past(self.file, condition, true);
+                self.check_command(&on, yes)?;
+                let off = path.past(self.file, condition, false);
+                self.check_command(&off, no)
+            }
+            Action::Assign {
+                target,
+                value,
+                place,
+            } => self.check_assignment(path, place, target, value),
         }
-        Action::Assign {
-            target,
-            value,
-            place,
-        } => { check_assignment(file, l, lattice, path, place, target, value) }
     }
 }

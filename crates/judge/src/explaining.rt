@@ -1,37 +1,34 @@
-//! A refusal in words.
-use listing::{CommandText, Reason, Source};
-use records::layout_of;
+//! Refusals of the judge in words.
+use listing::CommandText;
+use records::DesignFile;
 use refusal::Refusal;
-use std::io;
+use std::fmt;
 
-fn print_command(rt: &HostRuntime, file: &[u8], command: u32) -> io::Result<()> {
-    let Ok(layout) = layout_of(file) else {
-        return Ok(());
-    };
-    let source = Source { file, layout };
-    let depth = 1;
-    print!(rt;
-        "{}",
-        CommandText {
-            source,
-            command,
-            depth
-        }
-    )
+/// The command that a refusal is about, if it is about one, and the levels of a flow that is too high.
+#[derive(Clone, Copy)]
+pub(crate) struct Cause<'a> {
+    pub file: &'a DesignFile<'a>,
+    pub refusal: Refusal,
 }
 
-pub fn print_reason(rt: &HostRuntime, file: &[u8], refusal: Refusal) -> io::Result<()> {
-    println!(rt; "{}", Reason { refusal })?;
-    match refusal {
-        Refusal::FlowTooHigh {
+impl fmt::Display for Cause<'_> {
+    fn fmt<W: fmt::Write>(&self, f: &mut fmt::Formatter<W>) -> fmt::Result {
+        let text = |command| CommandText {
+            file: self.file,
             command,
-            flow,
-            target,
-        } => {
-            print_command(rt, file, command)?;
-            println!(rt; "  flow: level {flow}; target: level {target}")
+            depth: 1,
+        };
+        match self.refusal {
+            Refusal::FlowTooHigh {
+                command,
+                flow,
+                target,
+            } => {
+                let command = text(command);
+                writeln!(f, "{command}  flow: level {flow}; target: level {target}")
+            }
+            Refusal::ConditionTooHigh { command } => write!(f, "{}", text(command)),
+            _ => Ok(()),
         }
-        Refusal::ConditionTooHigh { command } => print_command(rt, file, command),
-        _ => Ok(()),
     }
 }

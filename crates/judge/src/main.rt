@@ -3,17 +3,15 @@
 
 mod arguments;
 mod explaining;
-mod making;
+mod failure;
+mod judging;
+mod lattices;
 
-use arguments::{Request, Shape, request_of};
-use design::read_design;
-use explaining::print_reason;
-use judgement::judge;
-use lattice::{Lattice, Pair, Reversed};
-use making::{Failure, Made, make};
-use refusal::Refusal;
-use std::io;
+use arguments::Shape;
+use failure::Failure;
+use judging::Judging;
 use std::io::Read;
+use std::{env, io};
 
 /// One byte more than the largest design file has.
 const MOST_BYTES: u64 = 27_437;
@@ -21,93 +19,32 @@ const MOST_BYTES: u64 = 27_437;
 const USAGE: &str = "usage: judge [--explain] [KIND | pair KIND KIND | reversed KIND] < DESIGN
        KIND: chain N | sets K | table FILE";
 
-/// What is judged, and how it is told.
-#[derive(Clone, Copy)]
-struct Task<'a> {
-    rt: &'a HostRuntime,
-    file: &'a [u8],
-    explain: bool,
-}
+/// The argument that asks for the reason of a refusal.
+const EXPLAIN: &str = "--explain";
 
-fn is_accepted<L: Lattice>(file: &[u8], lattice: &L) -> Result<(), Refusal> {
-    let formed = read_design(file)?;
-    judge(&formed, lattice)?;
-    Ok(())
-}
-
-fn print_verdict<L: Lattice>(task: Task<'_>, lattice: &L) -> Result<(), Failure> {
-    let rt = task.rt;
-    let sign = L::SIGN;
-    match is_accepted(task.file, lattice) {
-        Ok(()) => println!(rt; "{sign} accepted")?,
-        Err(refusal) => {
-            println!(rt; "{sign} {refusal}")?;
-            if task.explain {
-                print_reason(rt, task.file, refusal)?;
-            }
-        }
-    }
-    Ok(())
-}
-
-fn judge_single(task: Task<'_>, lattice: Made) -> Result<(), Failure> {
-    match lattice {
-        Made::Chain(chain) => print_verdict(task, &chain),
-        Made::Sets(sets) => print_verdict(task, &sets),
-        Made::Table(table) => print_verdict(task, &table),
-    }
-}
-
-fn judge_reversed(task: Task<'_>, lattice: Made) -> Result<(), Failure> {
-    match lattice {
-        Made::Chain(of) => print_verdict(task, &Reversed { of }),
-        Made::Sets(of) => print_verdict(task, &Reversed { of }),
-        Made::Table(of) => print_verdict(task, &Reversed { of }),
-    }
-}
-
-fn judge_beside<A: Lattice + Drop>(task: Task<'_>, first: A, second: Made) -> Result<(), Failure> {
-    match second {
-        Made::Chain(second) => print_verdict(task, &Pair { first, second }),
-        Made::Sets(second) => print_verdict(task, &Pair { first, second }),
-        Made::Table(second) => print_verdict(task, &Pair { first, second }),
-    }
-}
-
-fn judge_pair(task: Task<'_>, first: Made, second: Made) -> Result<(), Failure> {
-    match first {
-        Made::Chain(chain) => judge_beside(task, chain, second),
-        Made::Sets(sets) => judge_beside(task, sets, second),
-        Made::Table(table) => judge_beside(task, table, second),
-    }
-}
-
-fn judge_shape(task: Task<'_>, shape: Shape) -> Result<(), Failure> {
-    match shape {
-        Shape::Single(single) => judge_single(task, make(task.rt, single)?),
-        Shape::Reversed(single) => judge_reversed(task, make(task.rt, single)?),
-        Shape::Pair(first, second) => {
-            let first = make(task.rt, first)?;
-            judge_pair(task, first, make(task.rt, second)?)
-        }
-    }
+fn run(rt: &HostRuntime) -> Result<(), Failure> {
+    let args: Vec<String> = env::args(rt)?.skip(1).collect(rt.alloc())?;
+    let explain = args.iter().any(|arg| arg.as_str() == EXPLAIN);
+    let words: Vec<&str> = args
+        .iter()
+        .map(|arg| arg.as_str())
+        .filter(|arg| *arg != EXPLAIN)
+        .collect(rt.alloc())?;
+    let shape = Shape::parse(&words).ok_or(Failure::WrongArguments)?;
+    let mut bytes = Vec::new(rt.alloc());
+    rt.stdin().take(MOST_BYTES).read_to_end(&mut bytes)?;
+    let bytes = &bytes;
+    shape.run_task(rt, Judging { rt, bytes, explain })
 }
 
 fn main(rt: HostRuntime) -> io::Result<()> {
-    let Some(Request { shape, explain }) = request_of(&rt)? else {
-        eprintln!(rt; "{USAGE}")?;
-        return Err(io::Error::from(io::ErrorKind::InvalidInput));
-    };
-    let mut file = Vec::new(rt.alloc());
-    rt.stdin().take(MOST_BYTES).read_to_end(&mut file)?;
-    let task = Task {
-        rt: &rt,
-        file: &file,
-        explain,
-    };
-    match judge_shape(task, shape) {
+    match run(&rt) {
         Ok(()) => Ok(()),
+        Err(Failure::WrongArguments) => {
+            eprintln!(rt; "{USAGE}")?;
+            Err(io::Error::from(io::ErrorKind::InvalidInput))
+        }
         Err(Failure::Refused(sign, refusal)) => println!(rt; "{sign} {refusal}"),
-        Err(Failure::Input(error)) => Err(error),
+        Err(Failure::Io(error)) => Err(error),
     }
 }

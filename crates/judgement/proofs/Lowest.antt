@@ -8,8 +8,7 @@ use Rattle.language.specs.Form.{Way, Each}
 use Rattle.language.specs.Typing.{Anything}
 use Rattle.language.specs.Finite.{Test14}
 use Rattle.language.specs.Offences.{EachAt, SomeIn}
-use Rattle.records.specs.declared.layout.Layout.{Layout}
-use Rattle.records.specs.Layouts.{count_in}
+use Rattle.records.specs.Layouts.{File, count_in}
 use Rattle.records.specs.Trees.{body_at, settled_at, design_of}
 use Rattle.records.proofs.Designs.{clocked_is}
 use Rattle.judgement.specs.Findings.{lower_of, Least, LowestOf, Off14, Low14, Stayed, StayedIn, StayedTo, StayedAll}
@@ -63,41 +62,41 @@ pub not_true : (b : Bool) → not b ≡ true → b ≡ false
 not_true true h = sym h
 not_true false h = refl
 
-module _ (m : Meaning) (f : List ℕ) (l : Layout) where
-  pub stayed_clocked : (b : ℕ) (r : Option ℕ) → settled_at f l b ≡ false → Stayed m (design_of f l) [] (body_at f l b) r → StayedIn m f l b r
+module _ (m : Meaning) (f : File) where
+  pub stayed_clocked : (b : ℕ) (r : Option ℕ) → settled_at f b ≡ false → Stayed m (design_of f) [] (body_at f b) r → StayedIn m f b r
   stayed_clocked b None off h = λ e. h
   stayed_clocked b (Some k) off h = record { here = (off, h.here); lower = λ e. h.lower }
 
   abbrev Fine : ℕ → Type 0
-  Fine b = Each Anything (Test14 m (design_of f l)) [] (body_at f l b)
+  Fine b = Each Anything (Test14 m (design_of f)) [] (body_at f b)
 
   abbrev Low : ℕ → ℕ → Type 0
-  Low b k = EachAt (Low14 m (design_of f l) k) [] (body_at f l b)
+  Low b k = EachAt (Low14 m (design_of f) k) [] (body_at f b)
 
-  one_block : (b : ℕ) → Part (settled_at f l b ≡ false → Fine b) (λ k. settled_at f l b ≡ false → Low b k)
-  one_block b = record { all = λ h k e. all_low m (design_of f l) [] (body_at f l b) (h e) k; down = λ k j le h e. lower_low m (design_of f l) [] (body_at f l b) k j le (h e) }
+  one_block : (b : ℕ) → Part (settled_at f b ≡ false → Fine b) (λ k. settled_at f b ≡ false → Low b k)
+  one_block b = record { all = λ h k e. all_low m (design_of f) [] (body_at f b) (h e) k; down = λ k j le h e. lower_low m (design_of f) [] (body_at f b) k j le (h e) }
 
-  some_blocks : (n : ℕ) → Part ((b : ℕ) → b < n → settled_at f l b ≡ false → Fine b) (λ k. (b : ℕ) → b < n → settled_at f l b ≡ false → Low b k)
+  some_blocks : (n : ℕ) → Part ((b : ℕ) → b < n → settled_at f b ≡ false → Fine b) (λ k. (b : ℕ) → b < n → settled_at f b ≡ false → Low b k)
   some_blocks n = record { all = λ h k b i. (one_block b).all (h b i) k; down = λ k j le h b i. (one_block b).down k j le (h b i) }
 
   -- one block more
   each_more : (P : ℕ → Type 0) (n : ℕ) → ((b : ℕ) → b < n → P b) → P n → (b : ℕ) → b < n + 1 → P b
   each_more P n h k b i = ⊎_elim (λ (lt : b < n). h b lt) (λ (le : n ≤ b). let e : n ≡ b = omega arith in subst P e k) (cases_lt b n)
 
-  pub stayed_more : (n : ℕ) (ra rb : Option ℕ) → StayedTo m f l n ra → StayedIn m f l n rb → StayedTo m f l (n + 1) (lower_of ra rb)
+  pub stayed_more : (n : ℕ) (ra rb : Option ℕ) → StayedTo m f n ra → StayedIn m f n rb → StayedTo m f (n + 1) (lower_of ra rb)
   stayed_more n =
       two (some_blocks n) (one_block n)
-      (each_more (λ b. settled_at f l b ≡ false → Fine b) n)
+      (each_more (λ b. settled_at f b ≡ false → Fine b) n)
       (λ k. ⊎_elim (λ h. (h.0, omega (arith, h.1), h.2, h.3)) (λ h. (n, omega arith, h.0, h.1)))
-      (λ k. each_more (λ b. settled_at f l b ≡ false → Low b k) n)
+      (λ k. each_more (λ b. settled_at f b ≡ false → Low b k) n)
 
-  pub stayed_whole : (n : ℕ) (r : Option ℕ) → n ≡ count_in l Blocks → StayedTo m f l n r → StayedAll m (design_of f l) r
+  pub stayed_whole : (n : ℕ) (r : Option ℕ) → n ≡ count_in f Blocks → StayedTo m f n r → StayedAll m (design_of f) r
   stayed_whole n None is h =
-      subst (All (Each Anything (Test14 m (design_of f l)) [])) (sym (clocked_is f l))
-      (all_bodies f l (λ b. not (settled_at f l b)) (Each Anything (Test14 m (design_of f l)) []) 0 (count_in l Blocks) (λ b i j e. h b (omega (arith, is, j)) (not_true (settled_at f l b) e)))
+      subst (All (Each Anything (Test14 m (design_of f)) [])) (sym (clocked_is f))
+      (all_bodies f (λ b. not (settled_at f b)) (Each Anything (Test14 m (design_of f)) []) 0 (count_in f Blocks) (λ b i j e. h b (omega (arith, is, j)) (not_true (settled_at f b) e)))
   stayed_whole n (Some k) is h = record {
-    here = subst (SomeIn (Off14 m (design_of f l) k)) (sym (clocked_is f l))
-        (some_bodies f l (λ b. not (settled_at f l b)) (Off14 m (design_of f l) k) 0 (count_in l Blocks) h.here.0 (omega arith) (omega (arith, is, h.here.1)) (ap not h.here.2) h.here.3);
-    lower = subst (All (EachAt (Low14 m (design_of f l) k) [])) (sym (clocked_is f l))
-        (all_bodies f l (λ b. not (settled_at f l b)) (EachAt (Low14 m (design_of f l) k) []) 0 (count_in l Blocks) (λ b i j e. h.lower b (omega (arith, is, j)) (not_true (settled_at f l b) e)));
+    here = subst (SomeIn (Off14 m (design_of f) k)) (sym (clocked_is f))
+        (some_bodies f (λ b. not (settled_at f b)) (Off14 m (design_of f) k) 0 (count_in f Blocks) h.here.0 (omega arith) (omega (arith, is, h.here.1)) (ap not h.here.2) h.here.3);
+    lower = subst (All (EachAt (Low14 m (design_of f) k) [])) (sym (clocked_is f))
+        (all_bodies f (λ b. not (settled_at f b)) (EachAt (Low14 m (design_of f) k) []) 0 (count_in f Blocks) (λ b i j e. h.lower b (omega (arith, is, j)) (not_true (settled_at f b) e)));
   }

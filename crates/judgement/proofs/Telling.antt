@@ -7,7 +7,7 @@ use Rattle.lattice.proofs.Lists.{all_append}
 use Rattle.language.specs.Syntax.{Expr, Cmd, Design, idle, seq, choice, assign}
 use Rattle.language.specs.Machine.{inside}
 use Rattle.language.specs.Form.{Way, Each, Every, Formed}
-use Rattle.language.specs.Typing.{Levelled, Flows, Stays, Anything, TableLevels, LabelLevel, Reaches, Typed, sources, around}
+use Rattle.language.specs.Typing.{Levelled, Flows, Stays, Anything, Reaches, Typed, sources, around}
 use Rattle.language.specs.Finite.{Test12, Test13, Test14}
 use Rattle.language.specs.Offences.{SomeAt, EachAt, SomeIn, EachIn, First, Shown, Breaks13, Breaks14}
 use Rattle.language.proofs.Values.{all_sources}
@@ -16,15 +16,13 @@ use Rattle.language.proofs.Sane.{Sane, Inner, settled_sane, clocked_sane}
 use Rattle.language.proofs.Exact.{test_to_12, test_from_12, test_to_13, test_to_14, test_from_14}
 use Rattle.language.proofs.Offences.{offences_condemn}
 use Rattle.language.proofs.Runs.{noninterference}
-use Rattle.records.specs.declared.layout.Layout.{Layout}
-use Rattle.records.specs.Layouts.{count_in}
+use Rattle.records.specs.Layouts.{File, count_in}
 use Rattle.records.specs.Trees.{body_at, settled_at, design_of}
 use Rattle.records.proofs.Designs.{settled_is, clocked_is}
-use Rattle.design.specs.Right.{Refused}
 use Rattle.flows.specs.declared.leaks.Leak.{Leak}
 use Rattle.flows.specs.Findings.{Breach}
-use Rattle.judgement.specs.Findings.{TablesFine, LabelsFine, Tests12, Finds, no_table, no_label, too_high, condition_high, BlocksPass, Leaks, Off14, Low14, Lowest14}
-use Rattle.judgement.specs.Verdicts.{Accepts, Rejects, Declined}
+use Rattle.judgement.specs.Findings.{TablesFine, LabelsFine, Tests12, Finds, too_high, condition_high, BlocksPass, Leaks, Off14, Low14, Lowest14}
+use Rattle.judgement.specs.Verdicts.{Accepts, Rejects}
 use Rattle.judgement.proofs.Bodies.{all_bodies, some_bodies}
 
 -- ---- at each assignment
@@ -57,12 +55,6 @@ module _ (C : Expr → Type 0) (A : List Way → ℕ → Expr → Type 0) (B D :
 -- ---- 11 and 12
 
 module _ (m : Meaning) (d : Design) where
-  pub table_told : (f : Refusal) → Finds no_table (First (TableLevels m d)) f → Rejects m d f
-  table_told f x = subst (Rejects m d) (sym x.is) (record { untyped = (offences_condemn m d).table x.at x.found; tells = x.found })
-
-  pub label_told : TablesFine m d → (f : Refusal) → Finds no_label (First (LabelLevel m d)) f → Rejects m d f
-  label_told tables f x = subst (Rejects m d) (sym x.is) (record { untyped = (offences_condemn m d).label x.at x.found; tells = (tables, x.found) })
-
   pub levelled_by : TablesFine m d → LabelsFine m d → Levelled m d
   levelled_by tables labels = record { entries = tables; labels = labels }
 
@@ -86,9 +78,9 @@ module _ (m : Meaning) (d : Design) where
 
 -- ---- 13 and 14
 
-module _ (m : Meaning) (laws : Laws m) (file : List ℕ) (l : Layout) (formed : Formed (design_of file l)) (levelled : Levelled m (design_of file l)) (tests : Tests12 m (design_of file l)) where
+module _ (m : Meaning) (laws : Laws m) (file : File) (formed : Formed (design_of file)) (levelled : Levelled m (design_of file)) (tests : Tests12 m (design_of file)) where
   abbrev d : Design
-  d = design_of file l
+  d = design_of file
 
   abbrev At13 : (n a b : ℕ) → List Way → ℕ → Expr → ℕ → Type 0
   At13 n a b path u e k = (k ≡ n) × Shown m d a b path u e
@@ -97,34 +89,34 @@ module _ (m : Meaning) (laws : Laws m) (file : List ℕ) (l : Layout) (formed : 
   shown b path u e k sane x =
       (x.here, x.shown (all_append (λ v. inside d v ≡ true) (sources e) (around path) (all_sources (λ v. inside d v ≡ true) e sane.source.reads) sane.conditions))
 
-  broken : (b : Leak) (n : ℕ) → n < count_in l Blocks → SomeAt (Breach m d b) [] (body_at file l n) → (s : Bool) → settled_at file l n ≡ s → Breaks13 m d b.command b.flow b.target
+  broken : (b : Leak) (n : ℕ) → n < count_in file Blocks → SomeAt (Breach m d b) [] (body_at file n) → (s : Bool) → settled_at file n ≡ s → Breaks13 m d b.command b.flow b.target
   broken b n room x true is = inl
       (some_in_map (Inner d) (Sane d) (Breach m d b) (At13 b.command b.flow b.target) (shown b) d.settled (settled_sane d formed)
-      (subst (SomeIn (Breach m d b)) (sym (settled_is file l)) (some_bodies file l (settled_at file l) (Breach m d b) 0 (count_in l Blocks) n (omega arith) (omega (arith, room)) is x)))
+      (subst (SomeIn (Breach m d b)) (sym (settled_is file)) (some_bodies file (settled_at file) (Breach m d b) 0 (count_in file Blocks) n (omega arith) (omega (arith, room)) is x)))
   broken b n room x false is = inr
       (some_in_map (Inner d) (Sane d) (Breach m d b) (At13 b.command b.flow b.target) (shown b) d.clocked (clocked_sane d formed)
-      (subst (SomeIn (Breach m d b)) (sym (clocked_is file l)) (some_bodies file l (λ k. not (settled_at file l k)) (Breach m d b) 0 (count_in l Blocks) n (omega arith) (omega (arith, room)) (ap not is) x)))
+      (subst (SomeIn (Breach m d b)) (sym (clocked_is file)) (some_bodies file (λ k. not (settled_at file k)) (Breach m d b) 0 (count_in file Blocks) n (omega arith) (omega (arith, room)) (ap not is) x)))
 
-  pub flow_told : (f : Refusal) → Leaks m file l f → Rejects m d f
+  pub flow_told : (f : Refusal) → Leaks m file f → Rejects m d f
   flow_told f x =
       let b = x.leak in
-      let it = broken b x.block x.inside x.found (settled_at file l x.block) refl in
+      let it = broken b x.block x.inside x.found (settled_at file x.block) refl in
       subst (Rejects m d) (sym x.is) (record {
         untyped = (offences_condemn m d).flow b.command b.flow b.target it;
         tells = (levelled, reaches_by m d formed tests, it);
       })
 
-  settled_flows : BlocksPass m file l → Every Anything (Flows m d) d.settled
+  settled_flows : BlocksPass m file → Every Anything (Flows m d) d.settled
   settled_flows pass =
       rules m d (Test13 m d) (Flows m d) (test_to_13 m d laws formed levelled) d.settled (settled_sane d formed)
-      (subst (Every Anything (Test13 m d)) (sym (settled_is file l)) (all_bodies file l (settled_at file l) (Each Anything (Test13 m d) []) 0 (count_in l Blocks) (λ b i j e. pass b (omega arith))))
+      (subst (Every Anything (Test13 m d)) (sym (settled_is file)) (all_bodies file (settled_at file) (Each Anything (Test13 m d) []) 0 (count_in file Blocks) (λ b i j e. pass b (omega arith))))
 
-  clocked_flows : BlocksPass m file l → Every Anything (Flows m d) d.clocked
+  clocked_flows : BlocksPass m file → Every Anything (Flows m d) d.clocked
   clocked_flows pass =
       rules m d (Test13 m d) (Flows m d) (test_to_13 m d laws formed levelled) d.clocked (clocked_sane d formed)
-      (subst (Every Anything (Test13 m d)) (sym (clocked_is file l)) (all_bodies file l (λ b. not (settled_at file l b)) (Each Anything (Test13 m d) []) 0 (count_in l Blocks) (λ b i j e. pass b (omega arith))))
+      (subst (Every Anything (Test13 m d)) (sym (clocked_is file)) (all_bodies file (λ b. not (settled_at file b)) (Each Anything (Test13 m d) []) 0 (count_in file Blocks) (λ b i j e. pass b (omega arith))))
 
-  pub stay_told : BlocksPass m file l → (f : Refusal) → Finds condition_high (Lowest14 m d) f → Rejects m d f
+  pub stay_told : BlocksPass m file → (f : Refusal) → Finds condition_high (Lowest14 m d) f → Rejects m d f
   stay_told pass f x =
       let n = x.at in
       let it : Breaks14 m d n = record {
@@ -138,7 +130,7 @@ module _ (m : Meaning) (laws : Laws m) (file : List ℕ) (l : Layout) (formed : 
         tells = (levelled, reaches_by m d formed tests, settled_flows pass, clocked_flows pass, it);
       })
 
-  pub accepted : BlocksPass m file l → Every Anything (Test14 m d) d.clocked → Accepts m d
+  pub accepted : BlocksPass m file → Every Anything (Test14 m d) d.clocked → Accepts m d
   accepted pass stays =
       let typed : Typed m d = record {
         levelled = levelled;
@@ -148,9 +140,3 @@ module _ (m : Meaning) (laws : Laws m) (file : List ℕ) (l : Layout) (formed : 
         stays = rules m d (Test14 m d) (Stays m d) (test_to_14 m d laws formed levelled) d.clocked (clocked_sane d formed) stays;
       } in
       record { typed = typed; secure = noninterference m d laws formed typed }
-
--- ---- of a file
-
-module _ (m : Meaning) (f : List ℕ) where
-  pub form_told : (r : Refusal) → Refused f r → Declined m f r
-  form_told r x = record { reason = inl x; never = λ l form typed. x.not_accepted l form }

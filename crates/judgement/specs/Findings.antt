@@ -9,8 +9,7 @@ use Rattle.language.specs.Form.{Way, Each, Every}
 use Rattle.language.specs.Typing.{TableLevels, LabelLevel, Anything}
 use Rattle.language.specs.Finite.{Test12, Test13, Test14}
 use Rattle.language.specs.Offences.{SomeAt, EachAt, SomeIn, EachIn}
-use Rattle.records.specs.declared.layout.Layout.{Layout}
-use Rattle.records.specs.Layouts.{count_in}
+use Rattle.records.specs.Layouts.{File, count_in}
 use Rattle.records.specs.Trees.{body_at, settled_at, design_of}
 use Rattle.flows.specs.declared.leaks.Leak.{Leak}
 use Rattle.flows.specs.Findings.{Breach}
@@ -48,16 +47,16 @@ pub record Finds (refusal : ℕ → Refusal) (P : ℕ → Type 0) (f : Refusal) 
 -- ---- 13
 
 -- of every block of the file
-abbrev pub BlocksPass : Meaning → List ℕ → Layout → Type 0
-BlocksPass m f l = (b : ℕ) → b < count_in l Blocks → Each Anything (Test13 m (design_of f l)) [] (body_at f l b)
+abbrev pub BlocksPass : Meaning → File → Type 0
+BlocksPass m f = (b : ℕ) → b < count_in f Blocks → Each Anything (Test13 m (design_of f)) [] (body_at f b)
 
 -- f shows a leak in a block of the file
-pub record Leaks (m : Meaning) (file : List ℕ) (l : Layout) (f : Refusal) : Type 0 where
+pub record Leaks (m : Meaning) (file : File) (f : Refusal) : Type 0 where
   pub leak : Leak
   pub is : f ≡ FlowTooHigh leak.command leak.flow leak.target
   pub block : ℕ
-  pub inside : block < count_in l Blocks
-  pub found : SomeAt (Breach m (design_of file l) leak) [] (body_at file l block)
+  pub inside : block < count_in file Blocks
+  pub found : SomeAt (Breach m (design_of file) leak) [] (body_at file block)
 
 -- ---- 14
 
@@ -86,17 +85,17 @@ Low14 m d k path u e n = n < k → Test14 m d path u e
 abbrev pub Stayed : Meaning → Design → List Way → Cmd → Option ℕ → Type 0
 Stayed m d path c r = LowestOf (Each Anything (Test14 m d) path c) (λ k. SomeAt (Off14 m d k) path c) (λ k. EachAt (Low14 m d k) path c) r
 
-abbrev pub StayedIn : Meaning → List ℕ → Layout → ℕ → Option ℕ → Type 0
-StayedIn m f l b r = LowestOf
-    (settled_at f l b ≡ false → Each Anything (Test14 m (design_of f l)) [] (body_at f l b))
-    (λ k. (settled_at f l b ≡ false) × SomeAt (Off14 m (design_of f l) k) [] (body_at f l b))
-    (λ k. settled_at f l b ≡ false → EachAt (Low14 m (design_of f l) k) [] (body_at f l b)) r
+abbrev pub StayedIn : Meaning → File → ℕ → Option ℕ → Type 0
+StayedIn m f b r = LowestOf
+    (settled_at f b ≡ false → Each Anything (Test14 m (design_of f)) [] (body_at f b))
+    (λ k. (settled_at f b ≡ false) × SomeAt (Off14 m (design_of f) k) [] (body_at f b))
+    (λ k. settled_at f b ≡ false → EachAt (Low14 m (design_of f) k) [] (body_at f b)) r
 
-abbrev pub StayedTo : Meaning → List ℕ → Layout → ℕ → Option ℕ → Type 0
-StayedTo m f l n r = LowestOf
-    ((b : ℕ) → b < n → settled_at f l b ≡ false → Each Anything (Test14 m (design_of f l)) [] (body_at f l b))
-    (λ k. (b : ℕ) × (b < n) × (settled_at f l b ≡ false) × SomeAt (Off14 m (design_of f l) k) [] (body_at f l b))
-    (λ k. (b : ℕ) → b < n → settled_at f l b ≡ false → EachAt (Low14 m (design_of f l) k) [] (body_at f l b)) r
+abbrev pub StayedTo : Meaning → File → ℕ → Option ℕ → Type 0
+StayedTo m f n r = LowestOf
+    ((b : ℕ) → b < n → settled_at f b ≡ false → Each Anything (Test14 m (design_of f)) [] (body_at f b))
+    (λ k. (b : ℕ) × (b < n) × (settled_at f b ≡ false) × SomeAt (Off14 m (design_of f) k) [] (body_at f b))
+    (λ k. (b : ℕ) → b < n → settled_at f b ≡ false → EachAt (Low14 m (design_of f) k) [] (body_at f b)) r
 
 abbrev pub Lowest14 : Meaning → Design → ℕ → Type 0
 Lowest14 m d k = Least (λ k. SomeIn (Off14 m d k) d.clocked) (λ k. EachIn (Low14 m d k) d.clocked) k

@@ -12,7 +12,9 @@ use Rattle.language.specs.Offences.{First, Breaks13, Breaks14}
 use Rattle.language.specs.Guarantee.{Secure}
 use Rattle.records.specs.declared.layout.Layout.{Layout}
 use Rattle.records.specs.Trees.{design_of}
+use Rattle.design.specs.First.{under}
 use Rattle.design.specs.Right.{Accepted, Refused}
+use Rattle.records.specs.Layouts.{File}
 
 -- ---- of a formed design
 
@@ -65,11 +67,11 @@ pub record Rejects (m : Meaning) (d : Design) (f : Refusal) : Type 0 where
 -- ---- of a file
 
 -- the form is right, and the design keeps the rules
-pub record Approved (m : Meaning) (f : List ℕ) (l : Layout) : Type 0 where
-  pub form : Accepted f l
-  pub verdict : Accepts m (design_of f l)
+pub record Approved (m : Meaning) (f : File) : Type 0 where
+  pub form : Accepted f
+  pub verdict : Accepts m (design_of f)
 
 -- the form is refused, or else a rule is broken; and so the form is not right, or the design does not keep the rules
 pub record Declined (m : Meaning) (f : List ℕ) (r : Refusal) : Type 0 where
-  pub reason : Refused f r ⊎ ((l : Layout) × Accepted f l × Rejects m (design_of f l) r)
-  pub never : (l : Layout) → Accepted f l → Typed m (design_of f l) → ⊥
+  pub reason : Refused f r ⊎ ((l : Layout) × Accepted (under f l) × Rejects m (design_of (under f l)) r)
+  pub never : (l : Layout) → Accepted (under f l) → Typed m (design_of (under f l)) → ⊥

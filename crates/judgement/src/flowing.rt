@@ -4,27 +4,19 @@ ghost use Rattle.language.specs.Typing.{Levelled};
 ghost use Rattle.records.specs.Trees.{design_of};
 ghost use Rattle.judgement.specs.Findings.{BlocksPass, Leaks};
 
-use flows::find_leak;
+use flows::Tester;
 use lattice::Lattice;
 use paths::Path;
-use records::{Layout, block_at};
 use refusal::{Refusal, Section};
 
 /// Refuses a design with an assignment that breaks rule 13.
-pub(crate) fn check_flows<L: Lattice>(file: &[u8], l: Layout, lattice: &L) -> Result<(), Refusal>
-    ensures { Levelled (L.meaning lattice.now) (design_of file.now l) → MatchResult result
-        (λ _. BlocksPass (L.meaning lattice.now) file.now l)
-        (Leaks (L.meaning lattice.now) file.now l) }
+pub(crate) fn check_flows<L: Lattice>(tester: &Tester<'_, L>) -> Result<(), Refusal>
+    ensures { let m = L.meaning tester.now.lattice.now in let f = tester.now.file.now in
+        Levelled m (design_of f) → MatchResult result (λ _. BlocksPass m f) (Leaks m f) }
 {
     let start = Path::start();
-    for b in 0..l.count(Section::Blocks) {
-        if let Some(leak) = find_leak(file, l, lattice, &start, block_at(file, l, b).top) {
-            return Err(Refusal::FlowTooHigh {
-                command: leak.command,
-                flow: leak.flow,
-                target: leak.target,
-            });
-        }
+    for b in 0..tester.file.count(Section::Blocks) {
+        tester.check_command(&start, tester.file.block(b).top)?;
     }
     Ok(())
 }

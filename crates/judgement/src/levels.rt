@@ -8,122 +8,94 @@ ghost use Rattle.language.specs.Offences.{First};
 ghost use Rattle.records.specs.Trees.{design_of};
 ghost use Rattle.judgement.specs.Findings.{TablesFine, LabelsFine, Tests12, Finds, no_table, no_label, too_high};
 
+use crate::first::refuse_unfine;
+use flows::Tester;
 use lattice::Lattice;
-use paths::{Label, entry_of, fits_width, label_of, table_count, variable_count, width_of};
-use records::Layout;
+use records::{ENTRIES, Label};
 use refusal::{Place, Refusal, Section};
+use vectors::fits;
 
 // Whether every entry of table `t` is a level.
-fn is_table_fine<L: Lattice>(file: &[u8], l: Layout, lattice: &L, t: u32) -> bool
-    ensures { Decides result (TableLevels (L.meaning lattice.now) (design_of file.now l) t) }
+fn is_table_fine<L: Lattice>(tester: &Tester<'_, L>, t: u32) -> bool
+    ensures { Decides result ((i : ℕ) → i < 16 → entry (design_of tester.now.file.now) t i < (L.meaning tester.now.lattice.now).count) }
 {
-    let count = lattice.count();
-    for i in 0..16 {
-        if entry_of(file, l, t, i) >= count {
-            return false;
-        }
-    }
-    true
+    let count = tester.lattice.count();
+    (0..ENTRIES as u32).all(|i| tester.file.entry(t, i) < count)
 }
 
 // Whether the label of variable `v`, where it is fixed, is a level.
-fn is_label_fine<L: Lattice>(file: &[u8], l: Layout, lattice: &L, v: u32) -> bool
-    ensures { Decides result (LabelLevel (L.meaning lattice.now) (design_of file.now l) v) }
+fn is_label_fine<L: Lattice>(tester: &Tester<'_, L>, v: u32) -> bool
+    ensures { Decides result (LabelLevel (L.meaning tester.now.lattice.now) (design_of tester.now.file.now) v) }
 {
-    match label_of(file, l, v) {
-        Label::Fixed { level } => level < lattice.count(),
+    match tester.file.label(v) {
+        Label::Fixed { level } => level < tester.lattice.count(),
         Label::LookedUp { .. } => true,
     }
 }
 
 /// Refuses the first table that has an entry which is no level.
-pub(crate) fn check_tables<L: Lattice>(file: &[u8], l: Layout, lattice: &L) -> Result<(), Refusal>
-    ensures { MatchResult result (λ _. TablesFine (L.meaning lattice.now) (design_of file.now l))
-        (Finds no_table (First (TableLevels (L.meaning lattice.now) (design_of file.now l)))) }
+pub(crate) fn check_tables<L: Lattice>(tester: &Tester<'_, L>) -> Result<(), Refusal>
+    ensures { let m = L.meaning tester.now.lattice.now in let d = design_of tester.now.file.now in
+        MatchResult result (λ _. TablesFine m d) (Finds no_table (First (TableLevels m d))) }
 {
-    let count = table_count(file, l);
-    for t in 0..count {
-        if !is_table_fine(file, l, lattice, t) {
-            return Err(Refusal::NoLevel {
-                place: Place {
-                    section: Section::Tables,
-                    record: t,
-                },
-            });
-        }
-    }
-    Ok(())
+    refuse_unfine(
+        tester.file.table_count(),
+        |t| is_table_fine(tester, t),
+        |record| Refusal::NoLevel {
+            place: Place {
+                section: Section::Tables,
+                record,
+            },
+        },
+    )
 }
 
 /// Refuses the first variable whose fixed label is no level.
-pub(crate) fn check_labels<L: Lattice>(file: &[u8], l: Layout, lattice: &L) -> Result<(), Refusal>
-    ensures { MatchResult result (λ _. LabelsFine (L.meaning lattice.now) (design_of file.now l))
-        (Finds no_label (First (LabelLevel (L.meaning lattice.now) (design_of file.now l)))) }
+pub(crate) fn check_labels<L: Lattice>(tester: &Tester<'_, L>) -> Result<(), Refusal>
+    ensures { let m = L.meaning tester.now.lattice.now in let d = design_of tester.now.file.now in
+        MatchResult result (λ _. LabelsFine m d) (Finds no_label (First (LabelLevel m d))) }
 {
-    let count = variable_count(file, l);
-    for v in 0..count {
-        if !is_label_fine(file, l, lattice, v) {
-            return Err(Refusal::NoLevel {
-                place: Place {
-                    section: Section::Variables,
-                    record: v,
-                },
-            });
-        }
-    }
-    Ok(())
+    refuse_unfine(
+        tester.file.variable_count(),
+        |v| is_label_fine(tester, v),
+        |record| Refusal::NoLevel {
+            place: Place {
+                section: Section::Variables,
+                record,
+            },
+        },
+    )
 }
 
 // Whether level `k` is at or below each entry of table `t` that values of this width reach.
-fn is_under_entries<L: Lattice>(
-    file: &[u8],
-    l: Layout,
-    lattice: &L,
-    k: u32,
-    t: u32,
-    width: u32,
-) -> bool
-    ensures { Decides result ((x : ℕ) → x < 16 → x < 2 ^ width → Below (L.meaning lattice.now) k (entry (design_of file.now l) t x)) }
+fn is_under_entries<L: Lattice>(tester: &Tester<'_, L>, k: u32, t: u32, width: u32) -> bool
+    ensures { Decides result ((x : ℕ) → x < 16 → x < 2 ^ width → Below (L.meaning tester.now.lattice.now) k (entry (design_of tester.now.file.now) t x)) }
 {
-    for x in 0..16 {
-        if fits_width(x, width) {
-            if !lattice.is_below(k, entry_of(file, l, t, x)) {
-                return false;
-            }
-        }
-    }
-    true
+    (0..ENTRIES as u32).all(|x| !fits(x, width)
+        || tester.lattice.is_below(k, tester.file.entry(t, x)))
 }
 
 // Whether the selector of variable `v` keeps to rule 12.
-fn is_selector_fine<L: Lattice>(file: &[u8], l: Layout, lattice: &L, v: u32) -> bool
-    ensures { Decides result (Test12 (L.meaning lattice.now) (design_of file.now l) v) }
+fn is_selector_fine<L: Lattice>(tester: &Tester<'_, L>, v: u32) -> bool
+    ensures { Decides result (Test12 (L.meaning tester.now.lattice.now) (design_of tester.now.file.now) v) }
 {
-    match label_of(file, l, v) {
-        Label::Fixed { .. } => true,
-        Label::LookedUp { table, selector } => match label_of(file, l, selector) {
-            Label::LookedUp { .. } => true,
-            Label::Fixed { level } => {
-                is_under_entries(file, l, lattice, level, table, width_of(file, l, selector))
-            }
-        },
-    }
+    let Label::LookedUp { table, selector } = tester.file.label(v) else {
+        return true;
+    };
+    let Label::Fixed { level } = tester.file.label(selector) else {
+        return true;
+    };
+    is_under_entries(tester, level, table, tester.file.width(selector))
 }
 
 /// Refuses the first variable whose selector breaks rule 12.
-pub(crate) fn check_selectors<L: Lattice>(
-    file: &[u8],
-    l: Layout,
-    lattice: &L,
-) -> Result<(), Refusal>
-    ensures { MatchResult result (λ _. Tests12 (L.meaning lattice.now) (design_of file.now l))
-        (Finds too_high (First (Test12 (L.meaning lattice.now) (design_of file.now l)))) }
+pub(crate) fn check_selectors<L: Lattice>(tester: &Tester<'_, L>) -> Result<(), Refusal>
+    ensures { let m = L.meaning tester.now.lattice.now in let d = design_of tester.now.file.now in
+        MatchResult result (λ _. Tests12 m d) (Finds too_high (First (Test12 m d))) }
 {
-    let count = variable_count(file, l);
-    for v in 0..count {
-        if !is_selector_fine(file, l, lattice, v) {
-            return Err(Refusal::SelectorTooHigh { variable: v });
-        }
-    }
-    Ok(())
+    refuse_unfine(
+        tester.file.variable_count(),
+        |v| is_selector_fine(tester, v),
+        |variable| Refusal::SelectorTooHigh { variable },
+    )
 }

@@ -2,6 +2,7 @@
 #![tactic(auto)]
 
 mod accepted;
+mod first;
 mod flowing;
 mod levels;
 mod staying;

@@ -7,19 +7,18 @@ ghost use Rattle.judgement.specs.Verdicts.{Accepts, Rejects};
 use crate::flowing::check_flows;
 use crate::levels::{check_labels, check_selectors, check_tables};
 use crate::staying::check_stays;
+use flows::Tester;
 use lattice::Lattice;
-use records::Layout;
 use refusal::Refusal;
 
 /// Checks the typing rules of a formed design.
-pub(crate) fn judge_typing<L: Lattice>(file: &[u8], l: Layout, lattice: &L) -> Result<(), Refusal>
-    ensures { Formed (design_of file.now l) → MatchResult result
-        (λ _. Accepts (L.meaning lattice.now) (design_of file.now l))
-        (Rejects (L.meaning lattice.now) (design_of file.now l)) }
+pub(crate) fn judge_typing<L: Lattice>(tester: &Tester<'_, L>) -> Result<(), Refusal>
+    ensures { let m = L.meaning tester.now.lattice.now in let d = design_of tester.now.file.now in
+        Formed d → MatchResult result (λ _. Accepts m d) (Rejects m d) }
 {
-    check_tables(file, l, lattice)?;
-    check_labels(file, l, lattice)?;
-    check_selectors(file, l, lattice)?;
-    check_flows(file, l, lattice)?;
-    check_stays(file, l, lattice)
+    check_tables(tester)?;
+    check_labels(tester)?;
+    check_selectors(tester)?;
+    check_flows(tester)?;
+    check_stays(tester)
 }

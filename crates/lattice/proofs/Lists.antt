@@ -1,5 +1,7 @@
 -- What holds of every element of a list.
-use Rattle.std.proofs.Common.{ℕ, zero, suc, ◌<◌, List, [], ◌∷◌, ◌++◌, map, length, get_or, arith}
+use Rattle.std.proofs.Common.{◌≡◌, ℕ, zero, suc, ◌<◌, Bool, true, Decides, List, [], ◌∷◌, ◌++◌, map, length, get_or, refl, arith}
+use Rattle.std.proofs.lemmas.Bool.{and_parts, and_from}
+use Rattle.std.specs.List.{list_all}
 use Rattle.lattice.specs.Meaning.{All}
 
 pub all_left : {A : Type 0} (P : A → Type 0) (xs ys : List A) → All P (xs ++ ys) → All P xs
@@ -32,3 +34,12 @@ pub all_place : {A : Type 0} (P : A → Type 0) (d : A) (xs : List A) (k : ℕ) 
 all_place P d [] k l h = absurd (omega arith)
 all_place P d (x ∷ xs) zero l h = h.0
 all_place P d (x ∷ xs) (suc k) l h = all_place P d xs k (omega arith) h.1
+
+-- what a test tells of each
+pub all_decided : {A : Type 0} (p : A → Bool) (xs : List A) → Decides (list_all p xs) (All (λ x. p x ≡ true) xs)
+all_decided p [] = (λ e. tt, λ h. refl)
+all_decided p (x ∷ xs) =
+    let rest = all_decided p xs in (
+      λ e. let both = and_parts (p x) (list_all p xs) e in (both.0, rest.0 both.1),
+      λ h. and_from (p x) (list_all p xs) h.0 (rest.1 h.1),
+    )

@@ -5,11 +5,11 @@ ghost use Rattle.lattice.specs.Kinds.{chain};
 ghost use Rattle.refusal.specs.Outcome.{MadeIf};
 ghost use Rattle.refusal.specs.declared.Refusal.TheVariants.{OutsideLimits};
 
-use crate::{Lattice, Level, MOST_LEVELS};
+use crate::{Lattice, Level, MOST_LEVELS, are_levels};
 use refusal::Refusal;
 
 /// Levels 0 to n - 1, each at or below those that follow it.
-#[derive(Clone, Copy)]
+#[derive(Clone, Copy, Debug, PartialEq, Eq)]
 pub struct Chain {
     n: u32,
     ghost some: { 1 ≤ n },
@@ -31,15 +31,11 @@ impl Chain {
 impl Lattice for Chain {
     const SIGN: char = 'C';
 
+    ghost SIGN = { 67 };
+
     ghost meaning = { λ s. chain s.n };
 
     ghost lawful = { λ s. chain_laws s.n s.some s.most };
-
-    ghost levels = { λ s. (chain_laws s.n s.some s.most).order.levels };
-
-    ghost reflexive = { λ s. (chain_laws s.n s.some s.most).order.reflexive };
-
-    ghost transitive = { λ s. (chain_laws s.n s.some s.most).order.transitive };
 
     fn count(&self) -> u32 {
         self.n
@@ -50,7 +46,7 @@ impl Lattice for Chain {
     }
 
     fn join(&self, a: Level, b: Level) -> Level {
-        if a < self.n && b < self.n {
+        if are_levels(self.n, a, b) {
             a.max(b)
         } else {
             self.lowest()
@@ -58,7 +54,7 @@ impl Lattice for Chain {
     }
 
     fn meet(&self, a: Level, b: Level) -> Level {
-        if a < self.n && b < self.n {
+        if are_levels(self.n, a, b) {
             a.min(b)
         } else {
             self.lowest()

@@ -1,14 +1,16 @@
 //! The letters of the kinds, under a contract.
 ghost use Rattle.std.specs.Prelude.{◌≡◌};
 
-use crate::{Chain, Lattice, Sets};
+use crate::{Chain, Lattice, Pair, Reversed, Sets};
 
-/// The signs of chains and of sets: `C` and `S`.
-// No contract can name a trait's constant, nor that of a generic impl: the letters of pairs and reversals are tested.
-pub fn signs() -> (char, char)
-    ensures { result ≡ (67, 83) }
+/// The signs of chains, of sets, of pairs and of reversals: `C`, `S`, `P` and `R`.
+pub fn signs<A: Lattice, B: Lattice>() -> (char, char, char, char)
+    ensures { result ≡ (67, 83, 80, 82) }
 {
-    let chain = Chain::SIGN;
-    let sets = Sets::SIGN;
-    (chain, sets)
+    (
+        Chain::SIGN,
+        Sets::SIGN,
+        Pair::<A, B>::SIGN,
+        Reversed::<A>::SIGN,
+    )
 }

@@ -1,7 +1,7 @@
 //! Security lattices behind one trait: chains, sets of owners, pairs and reversals.
 #![tactic(auto)]
 
-ghost use Rattle.std.specs.Prelude.{◌≡◌, ℕ, ◌<◌, true};
+ghost use Rattle.std.specs.Prelude.{◌≡◌, ℕ, ◌<◌, true, Decides};
 ghost use Rattle.lattice.specs.Meaning.{Meaning, Laws, Joins, Meets, Lowest, Highest};
 
 mod chain;
@@ -24,10 +24,20 @@ pub type Level = u32;
 /// The most levels that a lattice may have.
 pub const MOST_LEVELS: u32 = 65_536;
 
+/// Whether `a` and `b` are levels of a lattice of `count` levels.
+// Beside the trait, since the method of an impl cannot call a provided one of the same trait.
+pub fn are_levels(count: u32, a: Level, b: Level) -> bool
+    ensures { Decides result ((a < count) × (b < count)) }
+{
+    a < count && b < count
+}
+
 /// A lattice of levels. Every answer follows from its count and its order; a question alters nothing.
 pub trait Lattice {
     /// The letter of the kind.
     const SIGN: char;
+
+    ghost SIGN: { ℕ };
 
     ghost meaning: { Self → Meaning };
 
@@ -38,6 +48,8 @@ pub trait Lattice {
     fn is_below(&self, a: Level, b: Level) -> bool
         ensures { result ≡ (meaning self.now).below a b };
 
+    // Each kind tests the levels itself: a provided join over one for two levels would give the trait
+    // a method that asks its callers for levels, and nothing public asks its callers for anything.
     /// The least level at or above both.
     fn join(&self, a: Level, b: Level) -> Level
         ensures { Joins (meaning self.now) a b result };
@@ -54,10 +66,10 @@ pub trait Lattice {
 
     ghost lawful: { (s : Self) → Laws (meaning s) };
 
-    // Parts of the same, one by one, for proofs over any lattice.
-    ghost levels: { (s : Self) (a b : ℕ) → (meaning s).below a b ≡ true → (a < (meaning s).count) × (b < (meaning s).count) };
+    // Three of the laws by names of their own, so that a proof over any lattice finds them by itself.
+    ghost levels: { (s : Self) (a b : ℕ) → (meaning s).below a b ≡ true → (a < (meaning s).count) × (b < (meaning s).count) } = { λ s. (lawful s).order.levels };
 
-    ghost reflexive: { (s : Self) (a : ℕ) → a < (meaning s).count → (meaning s).below a a ≡ true };
+    ghost reflexive: { (s : Self) (a : ℕ) → a < (meaning s).count → (meaning s).below a a ≡ true } = { λ s. (lawful s).order.reflexive };
 
-    ghost transitive: { (s : Self) (a b c : ℕ) → (meaning s).below a b ≡ true → (meaning s).below b c ≡ true → (meaning s).below a c ≡ true };
+    ghost transitive: { (s : Self) (a b c : ℕ) → (meaning s).below a b ≡ true → (meaning s).below b c ≡ true → (meaning s).below a c ≡ true } = { λ s. (lawful s).order.transitive };
 }

@@ -1,16 +1,16 @@
 //! P: the pair of two lattices.
 ghost use Rattle.std.specs.Prelude.{◌≡◌, ℕ, ◌+◌, ◌*◌, ◌<◌, ◌≤◌, MatchOption, nat_lt};
 ghost use Rattle.lattice.specs.Pairs.{pair_laws};
-ghost use Rattle.lattice.specs.Kinds.{pair, TwoLevels};
+ghost use Rattle.lattice.specs.Kinds.{pair, product, TwoLevels};
 ghost use Rattle.refusal.specs.Outcome.{MadeIf};
 ghost use Rattle.refusal.specs.declared.Refusal.TheVariants.{OutsideLimits};
 
-use crate::{Lattice, Level, MOST_LEVELS};
+use crate::{Lattice, Level, MOST_LEVELS, are_levels};
 use refusal::Refusal;
 
 /// Level `a * q + b` stands for level `a` of the first and `b` of the second, which has `q` levels.
 /// Where that would make more than 65,536 levels, the pair has the one level 0.
-#[derive(Clone, Copy)]
+#[derive(Clone, Copy, Debug, PartialEq, Eq)]
 pub struct Pair<A, B> {
     pub first: A,
     pub second: B,
@@ -19,23 +19,25 @@ pub struct Pair<A, B> {
 /// How many levels the pair of two lattices has, where these are not too many.
 pub fn pair_count<A: Lattice, B: Lattice>(first: &A, second: &B) -> Result<u32, Refusal>
     ensures { MadeIf result
-        ((A.Lattice.meaning first.now).count * (B.Lattice.meaning second.now).count ≤ 65536)
-        (λ n. n ≡ (A.Lattice.meaning first.now).count * (B.Lattice.meaning second.now).count)
+        ((product (A.Lattice.meaning first.now) (B.Lattice.meaning second.now)).count ≤ 65536)
+        (λ n. n ≡ (product (A.Lattice.meaning first.now) (B.Lattice.meaning second.now)).count)
         OutsideLimits }
 {
-    let n = first.count() as u64 * second.count() as u64;
-    if n > MOST_LEVELS as u64 {
-        return Err(Refusal::OutsideLimits);
-    }
-    Ok(n as u32)
+    first
+        .count()
+        .checked_mul(second.count())
+        .filter(|n| *n <= MOST_LEVELS)
+        .ok_or(Refusal::OutsideLimits)
 }
 
 impl<A: Lattice, B: Lattice> Pair<A, B> {
-    // Whether the product has too many levels.
-    fn is_over(&self) -> bool
-        ensures { result ≡ nat_lt 65536 ((A.Lattice.meaning self.now.first).count * (B.Lattice.meaning self.now.second).count) }
+    // How many levels the product has, where these are not too many.
+    fn product(&self) -> Option<u32>
+        ensures { MatchOption result
+            (65536 < (product (A.Lattice.meaning self.now.first) (B.Lattice.meaning self.now.second)).count)
+            (λ n. (n ≤ 65536) × (n ≡ (product (A.Lattice.meaning self.now.first) (B.Lattice.meaning self.now.second)).count)) }
     {
-        self.first.count() as u64 * self.second.count() as u64 > MOST_LEVELS as u64
+        pair_count(&self.first, &self.second).ok()
     }
 
     // How many levels share a high half, where `a` and `b` are levels of the product.
@@ -44,18 +46,15 @@ impl<A: Lattice, B: Lattice> Pair<A, B> {
             (TwoLevels (A.Lattice.meaning self.now.first) (B.Lattice.meaning self.now.second) a b → ⊥)
             (λ q. TwoLevels (A.Lattice.meaning self.now.first) (B.Lattice.meaning self.now.second) a b × (q ≡ (B.Lattice.meaning self.now.second).count)) }
     {
-        let p = self.first.count();
-        let q = self.second.count();
-        let product = p as u64 * q as u64;
-        if product > MOST_LEVELS as u64 || a as u64 >= product || b as u64 >= product {
+        if !are_levels(self.product()?, a, b) {
             return None;
         }
-        Some(q)
+        Some(self.second.count())
     }
 
     // The level of two halves.
     fn level(&self, a: Level, b: Level) -> Level
-        requires product_bound { (A.Lattice.meaning self.now.first).count * (B.Lattice.meaning self.now.second).count ≤ 65536 }
+        requires product_bound { (product (A.Lattice.meaning self.now.first) (B.Lattice.meaning self.now.second)).count ≤ 65536 }
         requires a_bound { a < (A.Lattice.meaning self.now.first).count }
         requires b_bound { b < (B.Lattice.meaning self.now.second).count }
         ensures { result ≡ a * (B.Lattice.meaning self.now.second).count + b }
@@ -67,25 +66,18 @@ impl<A: Lattice, B: Lattice> Pair<A, B> {
 impl<A: Lattice, B: Lattice> Lattice for Pair<A, B> {
     const SIGN: char = 'P';
 
+    ghost SIGN = { 80 };
+
     ghost meaning = { λ s. pair (A.Lattice.meaning s.first) (B.Lattice.meaning s.second) };
 
     ghost lawful = { λ s. pair_laws (A.Lattice.lawful s.first) (B.Lattice.lawful s.second) };
 
-    ghost levels = { λ s. (pair_laws (A.Lattice.lawful s.first) (B.Lattice.lawful s.second)).order.levels };
-
-    ghost reflexive = { λ s. (pair_laws (A.Lattice.lawful s.first) (B.Lattice.lawful s.second)).order.reflexive };
-
-    ghost transitive = { λ s. (pair_laws (A.Lattice.lawful s.first) (B.Lattice.lawful s.second)).order.transitive };
-
     fn count(&self) -> u32 {
-        match pair_count(&self.first, &self.second) {
-            Ok(n) => n,
-            Err(_) => 1,
-        }
+        self.product().unwrap_or(1)
     }
 
     fn is_below(&self, a: Level, b: Level) -> bool {
-        if self.is_over() {
+        if self.product().is_none() {
             return a == 0 && b == 0;
         }
         let q = self.second.count();
@@ -113,7 +105,7 @@ impl<A: Lattice, B: Lattice> Lattice for Pair<A, B> {
     }
 
     fn lowest(&self) -> Level {
-        if self.is_over() {
+        if self.product().is_none() {
             0
         } else {
             self.level(self.first.lowest(), self.second.lowest())
@@ -121,7 +113,7 @@ impl<A: Lattice, B: Lattice> Lattice for Pair<A, B> {
     }
 
     fn highest(&self) -> Level {
-        if self.is_over() {
+        if self.product().is_none() {
             0
         } else {
             self.level(self.first.highest(), self.second.highest())

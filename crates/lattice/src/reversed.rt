@@ -3,10 +3,10 @@ ghost use Rattle.std.specs.Prelude.{◌≡◌};
 ghost use Rattle.lattice.specs.Reversals.{reversed_laws};
 ghost use Rattle.lattice.specs.Kinds.{reversed};
 
-use crate::{Lattice, Level};
+use crate::{Lattice, Level, are_levels};
 
 /// The levels of `of`, with the order turned round.
-#[derive(Clone, Copy)]
+#[derive(Clone, Copy, Debug, PartialEq, Eq)]
 pub struct Reversed<A> {
     pub of: A,
 }
@@ -14,15 +14,11 @@ pub struct Reversed<A> {
 impl<A: Lattice> Lattice for Reversed<A> {
     const SIGN: char = 'R';
 
+    ghost SIGN = { 82 };
+
     ghost meaning = { λ s. reversed (A.Lattice.meaning s.of) };
 
     ghost lawful = { λ s. reversed_laws (A.Lattice.lawful s.of) };
-
-    ghost levels = { λ s. (reversed_laws (A.Lattice.lawful s.of)).order.levels };
-
-    ghost reflexive = { λ s. (reversed_laws (A.Lattice.lawful s.of)).order.reflexive };
-
-    ghost transitive = { λ s. (reversed_laws (A.Lattice.lawful s.of)).order.transitive };
 
     fn count(&self) -> u32 {
         self.of.count()
@@ -33,7 +29,7 @@ impl<A: Lattice> Lattice for Reversed<A> {
     }
 
     fn join(&self, a: Level, b: Level) -> Level {
-        if a < self.of.count() && b < self.of.count() {
+        if are_levels(self.of.count(), a, b) {
             self.of.meet(a, b)
         } else {
             self.lowest()
@@ -41,7 +37,7 @@ impl<A: Lattice> Lattice for Reversed<A> {
     }
 
     fn meet(&self, a: Level, b: Level) -> Level {
-        if a < self.of.count() && b < self.of.count() {
+        if are_levels(self.of.count(), a, b) {
             self.of.join(a, b)
         } else {
             self.lowest()

@@ -5,11 +5,11 @@ ghost use Rattle.lattice.specs.Kinds.{sets, Subset};
 ghost use Rattle.refusal.specs.Outcome.{MadeIf};
 ghost use Rattle.refusal.specs.declared.Refusal.TheVariants.{OutsideLimits};
 
-use crate::{Lattice, Level};
+use crate::{Lattice, Level, are_levels};
 use refusal::Refusal;
 
 /// A level is a set of owners: bit i is 1 where owner i belongs to it.
-#[derive(Clone, Copy)]
+#[derive(Clone, Copy, Debug, PartialEq, Eq)]
 pub struct Sets {
     owners: u32,
     ghost most: { owners ≤ 16 },
@@ -27,27 +27,16 @@ impl Sets {
         }
         Ok(Sets { owners })
     }
-
-    // Whether `b` is a level and has every bit of `a`.
-    fn has_bits(&self, a: Level, b: Level) -> bool
-        ensures { result ≡ (sets self.now.owners).below a b }
-    {
-        a & b == a && b < self.count()
-    }
 }
 
 impl Lattice for Sets {
     const SIGN: char = 'S';
 
+    ghost SIGN = { 83 };
+
     ghost meaning = { λ s. sets s.owners };
 
     ghost lawful = { λ s. sets_laws s.owners s.most };
-
-    ghost levels = { λ s. (sets_laws s.owners s.most).order.levels };
-
-    ghost reflexive = { λ s. (sets_laws s.owners s.most).order.reflexive };
-
-    ghost transitive = { λ s. (sets_laws s.owners s.most).order.transitive };
 
     fn count(&self) -> u32 {
         1 << self.owners
@@ -58,11 +47,11 @@ impl Lattice for Sets {
         ensures below { result ≡ (sets self.now.owners).below a b }
         ensures subset { Decides result (Subset self.now.owners a b) }
     {
-        self.has_bits(a, b)
+        a & b == a && b < self.count()
     }
 
     fn join(&self, a: Level, b: Level) -> Level {
-        if a < self.count() && b < self.count() {
+        if are_levels(self.count(), a, b) {
             a | b
         } else {
             self.lowest()
@@ -70,7 +59,7 @@ impl Lattice for Sets {
     }
 
     fn meet(&self, a: Level, b: Level) -> Level {
-        if a < self.count() && b < self.count() {
+        if are_levels(self.count(), a, b) {
             a & b
         } else {
             self.lowest()

@@ -9,12 +9,7 @@ pub fn all_below<L: Lattice>(l: &L, levels: &[Level], top: Level) -> bool
     ensures each { Decides result (EachBelow (L.meaning l.now) levels.now top) }
     ensures join { top < (L.meaning l.now).count → (j : ℕ) → Joined (L.meaning l.now) levels.now j → (L.meaning l.now).below j top ≡ result }
 {
-    for a in levels {
-        if !l.is_below(*a, top) {
-            return false;
-        }
-    }
-    true
+    levels.iter().all(|a| l.is_below(*a, top))
 }
 
 /// The least level at or above each of the levels; of none, the lowest. Nothing where one of them is no level.
@@ -23,6 +18,7 @@ pub fn join_all<L: Lattice>(l: &L, levels: &[Level]) -> Option<Level>
         (All (λ a. a < (L.meaning l.now).count) levels.now → ⊥)
         (λ j. Joined (L.meaning l.now) levels.now j) }
 {
+    // A `try_fold` would wrap each step in an `Option` and read no plainer.
     let mut join = l.lowest();
     for a in levels {
         if *a >= l.count() {

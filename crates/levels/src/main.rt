@@ -6,37 +6,31 @@ use lattice::{Lattice, Level};
 use std::io;
 use std::io::Read;
 
-/// What a table of answers is about.
-#[derive(Clone, Copy)]
-enum Question {
-    Join,
-    Meet,
-}
-
-fn answer<L: Lattice>(lattice: &L, question: Question, a: Level, b: Level) -> Level {
-    match question {
-        Question::Join => lattice.join(a, b),
-        Question::Meet => lattice.meet(a, b),
-    }
-}
-
-fn print_row<L: Lattice>(
+fn print_row<F: Fn(Level, Level) -> Level>(
     rt: &HostRuntime,
-    lattice: &L,
-    question: Question,
+    count: u32,
     a: Level,
-) -> io::Result<()> {
-    for b in 0..lattice.count() {
+    answer: &F,
+) -> io::Result<()>
+    requires { F.IsAlwaysCallable answer.now }
+{
+    for b in 0..count {
         let gap = if b == 0 { "" } else { " " };
-        let level = answer(lattice, question, a, b);
+        let level = answer(a, b);
         print!(rt; "{gap}{level}")?;
     }
     println!(rt; "")
 }
 
-fn print_answers<L: Lattice>(rt: &HostRuntime, lattice: &L, question: Question) -> io::Result<()> {
-    for a in 0..lattice.count() {
-        print_row(rt, lattice, question, a)?;
+fn print_answers<F: Fn(Level, Level) -> Level>(
+    rt: &HostRuntime,
+    count: u32,
+    answer: F,
+) -> io::Result<()>
+    requires { F.IsAlwaysCallable answer }
+{
+    for a in 0..count {
+        print_row(rt, count, a, &answer)?;
     }
     Ok(())
 }
@@ -51,9 +45,9 @@ fn print_lattice<L: Lattice>(rt: &HostRuntime, lattice: &L) -> io::Result<()> {
     println!(rt; "lowest {lowest}")?;
     println!(rt; "highest {highest}")?;
     println!(rt; "joins")?;
-    print_answers(rt, lattice, Question::Join)?;
+    print_answers(rt, count, |a, b| lattice.join(a, b))?;
     println!(rt; "meets")?;
-    print_answers(rt, lattice, Question::Meet)
+    print_answers(rt, count, |a, b| lattice.meet(a, b))
 }
 
 fn main(rt: HostRuntime) -> io::Result<()> {

@@ -1,31 +1,32 @@
 //! Expressions as text.
-use crate::Source;
-use crate::variables::name_of;
-use records::{Node, Pairing, node_at};
+use crate::declarations::Name;
+use records::{DesignFile, Node};
 use std::fmt;
+use vectors::Pairing;
 
 /// An expression, written out.
 #[derive(Clone, Copy)]
 pub struct ExpressionText<'a> {
-    pub source: Source<'a>,
+    pub file: &'a DesignFile<'a>,
     pub expression: u32,
 }
 
 impl fmt::Display for ExpressionText<'_> {
     fn fmt<W: fmt::Write>(&self, f: &mut fmt::Formatter<W>) -> fmt::Result {
-        show(self.source, self.expression, false, f)
+        show(self.file, self.expression, f)
     }
 }
 
+// A function, since neither Display nor Pairing is of this crate.
 fn mark_of(pairing: Pairing) -> &'static str {
     match pairing {
-        Pairing::And => "&",
-        Pairing::Or => "|",
-        Pairing::Xor => "^",
-        Pairing::Sum => "+",
-        Pairing::Difference => "-",
-        Pairing::Equals => "==",
-        Pairing::Less => "<",
+        Pairing::And => " & ",
+        Pairing::Or => " | ",
+        Pairing::Xor => " ^ ",
+        Pairing::Sum => " + ",
+        Pairing::Difference => " - ",
+        Pairing::Equals => " == ",
+        Pairing::Less => " < ",
     }
 }
 
@@ -43,38 +44,43 @@ fn show_suffix<W: fmt::Write>(node: Node, f: &mut fmt::Formatter<W>) -> fmt::Res
         Node::ShiftLeft { by, .. } => write!(f, " << {by}"),
         Node::ShiftRight { by, .. } => write!(f, " >> {by}"),
         Node::Part { width, from, .. } => {
-            let top = (from as u64 + width as u64).saturating_sub(1);
+            let top = (u64::from(from) + u64::from(width)).saturating_sub(1);
             write!(f, "[{top}:{from}]")
         }
         _ => Ok(()),
     }
 }
 
-// Expression `n`, in brackets where it is an open part of another.
-fn show<W: fmt::Write>(
-    source: Source<'_>,
+// A mark, and after it expression `n` as a part of another.
+// Functions, since a `fmt` that calls itself through `write!` does not prove.
+#[cycle(expression)]
+fn show_part<W: fmt::Write>(
+    file: &DesignFile<'_>,
+    mark: &str,
     n: u32,
-    part: bool,
     f: &mut fmt::Formatter<W>,
 ) -> fmt::Result {
-    let node = node_at(source.file, source.layout, n);
-    let (open, close) = if part && is_open(node) {
-        ("(", ")")
-    } else {
-        ("", "")
-    };
-    write!(f, "{open}")?;
+    write!(f, "{mark}")?;
+    if !is_open(file.node(n)) {
+        return show(file, n, f);
+    }
+    write!(f, "(")?;
+    show(file, n, f)?;
+    write!(f, ")")
+}
+
+// Expression `n`; the constant that stands for one out of range has no width.
+#[cycle(expression)]
+fn show<W: fmt::Write>(file: &DesignFile<'_>, n: u32, f: &mut fmt::Formatter<W>) -> fmt::Result {
+    let node = file.node(n);
     match node {
-        Node::Nothing => write!(f, "0")?,
-        Node::Constant { width, value } => write!(f, "{width}'d{value}")?,
-        Node::Variable { variable, .. } => write!(f, "{}", name_of(source, variable))?,
-        Node::Not { of, .. } => {
-            write!(f, "~")?;
-            show(source, of, true, f)?;
-        }
+        Node::Constant { width: 0, .. } => write!(f, "0"),
+        Node::Constant { width, value } => write!(f, "{width}'d{value}"),
+        Node::Variable { variable, .. } => write!(f, "{}", Name::of(file, variable)),
+        Node::Not { of, .. } => show_part(file, "~", of, f),
         Node::ShiftLeft { of, .. } | Node::ShiftRight { of, .. } | Node::Part { of, .. } => {
-            show(source, of, true, f)?;
-            show_suffix(node, f)?;
+            show_part(file, "", of, f)?;
+            show_suffix(node, f)
         }
         Node::Pair {
             by,
@@ -82,16 +88,15 @@ fn show<W: fmt::Write>(
             right,
             ..
         } => {
-            show(source, left, true, f)?;
-            write!(f, " {} ", mark_of(by))?;
-            show(source, right, true, f)?;
+            show_part(file, "", left, f)?;
+            show_part(file, mark_of(by), right, f)
         }
         Node::Above { high, low, .. } => {
             write!(f, "{{")?;
-            show(source, high, false, f)?;
+            show(file, high, f)?;
             write!(f, ", ")?;
-            show(source, low, false, f)?;
-            write!(f, "}}")?;
+            show(file, low, f)?;
+            write!(f, "}}")
         }
         Node::Choose {
             condition,
@@ -99,12 +104,9 @@ fn show<W: fmt::Write>(
             no,
             ..
         } => {
-            show(source, condition, true, f)?;
-            write!(f, " ? ")?;
-            show(source, yes, true, f)?;
-            write!(f, " : ")?;
-            show(source, no, true, f)?;
+            show_part(file, "", condition, f)?;
+            show_part(file, " ? ", yes, f)?;
+            show_part(file, " : ", no, f)
         }
     }
-    write!(f, "{close}")
 }

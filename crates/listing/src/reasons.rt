@@ -1,5 +1,5 @@
 //! Refusals in plain words.
-use refusal::Refusal;
+use refusal::{Place, Refusal, Section};
 use std::fmt;
 
 /// What a refusal means, and which record it is about.
@@ -11,20 +11,19 @@ pub struct Reason {
 impl fmt::Display for Reason {
     fn fmt<W: fmt::Write>(&self, f: &mut fmt::Formatter<W>) -> fmt::Result {
         let reason = reason_of(self.refusal);
-        let record = self.refusal.record();
-        match self.refusal {
-            Refusal::TooShort
-            | Refusal::UnknownEdition
-            | Refusal::OutsideLimits
-            | Refusal::NotALattice => write!(f, "{reason}"),
-            Refusal::BrokenLayout { section } | Refusal::OverLimit { section } => {
+        match (self.refusal, self.refusal.place()) {
+            (Refusal::BrokenLayout { section } | Refusal::OverLimit { section }, _) => {
                 write!(f, "section {}: {reason}", section.number())
             }
-            _ => write!(f, "{} {record}: {reason}", kind_of(self.refusal)),
+            (_, Some(Place { section, record })) => {
+                write!(f, "{} {record}: {reason}", word_of(section))
+            }
+            (_, None) => write!(f, "{reason}"),
         }
     }
 }
 
+// A function, since Refusal has its own Display, which is for programs.
 fn reason_of(refusal: Refusal) -> &'static str {
     match refusal {
         Refusal::TooShort => "the file has fewer than 44 bytes",
@@ -58,13 +57,13 @@ fn reason_of(refusal: Refusal) -> &'static str {
     }
 }
 
-// The kind of record that a refusal is about.
-fn kind_of(refusal: Refusal) -> &'static str {
-    match refusal.section() {
-        0 => "label table",
-        1 => "variable",
-        2 => "block",
-        3 => "command",
-        _ => "expression",
+// What a record of a section is. A function, since neither Display nor Section is of this crate.
+fn word_of(section: Section) -> &'static str {
+    match section {
+        Section::Tables => "label table",
+        Section::Variables => "variable",
+        Section::Blocks => "block",
+        Section::Commands => "command",
+        Section::Expressions => "expression",
     }
 }

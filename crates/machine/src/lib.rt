@@ -3,12 +3,9 @@
 
 mod blocks;
 mod calls;
-mod held;
 mod levels;
+mod state;
 mod value;
 
-pub use blocks::{clocked, execute, settled};
-pub use calls::{answer, clock, drive, driven, opening, reset};
-pub use held::Held;
-pub use levels::{clear, is_cleared, level_at};
-pub use value::eval;
+pub use calls::{clock, drive, driven, opening, reset};
+pub use state::State;

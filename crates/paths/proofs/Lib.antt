@@ -1,2 +1,2 @@
-pub mod Tables
-pub mod Filling
+pub mod Narrowing
+pub mod Unread

@@ -1,36 +1,42 @@
 //! The values to try at an origin, and the levels there.
+ghost use Rattle.std.specs.Prelude.{◌≡◌, MatchOption};
+ghost use Rattle.language.specs.Finite.{Tries, level_at};
 ghost use Rattle.records.specs.Trees.{design_of};
-ghost use Rattle.std.specs.Prelude.{◌≡◌};
-ghost use Rattle.paths.specs.Marks.{sets_of};
+ghost use Rattle.paths.specs.Marks.{place_of, sets_of};
 ghost use Rattle.paths.specs.Trying.{Tabled};
 
-use crate::origins::{Origin, is_tried, level_at};
-use crate::path::ValueSets;
-use records::Layout;
+use crate::origins::Origin;
+use crate::values::ValueSets;
+use records::{DesignFile, ENTRIES};
+use std::array;
 
-/// An origin, and for each of sixteen values whether it is to be tried, and the level there. Worked out once, so that each
-/// value of one origin can be held against each of another at no cost.
+/// An origin, and the level there at each value that is to be tried. Worked out once, so that each value of
+/// one origin can be held against each of another at no cost.
 #[derive(Clone, Copy)]
 pub struct Trials {
     pub origin: Origin,
-    pub tried: [bool; 16],
-    pub levels: [u32; 16],
+    pub levels: [Option<u32>; ENTRIES],
 }
 
-/// What is to be tried at this origin.
-pub fn trials_at(file: &[u8], l: Layout, sets: &ValueSets, origin: Origin) -> Trials
-    ensures origin { result.origin ≡ origin }
-    ensures tabled { Tabled (design_of file.now l) (sets_of sets.now) result }
+// The level at this origin where the value is `x`, if `x` is to be tried.
+fn level_tried(file: &DesignFile<'_>, sets: &ValueSets, origin: Origin, x: u32) -> Option<u32>
+    ensures { MatchOption result
+        (Tries (design_of file.now) (sets_of sets.now) (place_of origin) x → ⊥)
+        (λ l. Tries (design_of file.now) (sets_of sets.now) (place_of origin) x × (l ≡ level_at (design_of file.now) (place_of origin) x)) }
 {
-    let mut tried = [false; 16];
-    let mut levels = [0; 16];
-    for x in 0..16u32 {
-        tried[x as usize] = is_tried(file, l, sets, origin, x);
-        levels[x as usize] = level_at(file, l, origin, x);
-    }
-    Trials {
-        origin,
-        tried,
-        levels,
+    let level = origin.level_at(file, x);
+    origin.is_tried(file, sets, x).then_some(level)
+}
+
+impl Trials {
+    /// What is to be tried at this origin.
+    pub fn at(file: &DesignFile<'_>, sets: &ValueSets, origin: Origin) -> Trials
+        ensures origin { result.origin ≡ origin }
+        ensures tabled { Tabled (design_of file.now) (sets_of sets.now) result }
+    {
+        Trials {
+            origin,
+            levels: array::from_fn(|x| level_tried(file, sets, origin, x as u32)),
+        }
     }
 }

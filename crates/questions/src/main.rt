@@ -27,8 +27,6 @@ enum Answer {
     Sign(char),
     Number(u32),
     Test(bool),
-    Refused(Refusal),
-    Unknown,
 }
 
 impl fmt::Display for Answer {
@@ -38,40 +36,52 @@ impl fmt::Display for Answer {
             Answer::Number(n) => write!(f, "{n}"),
             Answer::Test(true) => write!(f, "yes"),
             Answer::Test(false) => write!(f, "no"),
-            Answer::Refused(refusal) => write!(f, "{refusal}"),
-            Answer::Unknown => write!(f, "unknown"),
         }
     }
 }
 
-fn number(word: Option<&str>) -> Option<u32> {
-    word?.parse::<u32>().ok()
+/// Why there is no answer, as it is printed.
+#[derive(Clone, Copy)]
+enum Failure {
+    Refused(Refusal),
+    Unknown,
+}
+
+impl From<Refusal> for Failure {
+    fn from(refusal: Refusal) -> Failure {
+        Failure::Refused(refusal)
+    }
+}
+
+impl fmt::Display for Failure {
+    fn fmt<W: fmt::Write>(&self, f: &mut fmt::Formatter<W>) -> fmt::Result {
+        match *self {
+            Failure::Refused(refusal) => write!(f, "{refusal}"),
+            Failure::Unknown => write!(f, "unknown"),
+        }
+    }
 }
 
 fn question_of(line: &str) -> Option<Question> {
     let mut words = line.split_whitespace();
     let _lattice = words.next();
     let name = words.next()?;
-    match name {
-        "sign" => return Some(Question::Sign),
-        "count" => return Some(Question::Count),
-        "lowest" => return Some(Question::Lowest),
-        "highest" => return Some(Question::Highest),
-        "product" => return Some(Question::Product),
-        _ => {}
-    }
-    let a = number(words.next())?;
-    let b = number(words.next())?;
-    match name {
-        "below" => Some(Question::Below(a, b)),
-        "join" => Some(Question::Join(a, b)),
-        "meet" => Some(Question::Meet(a, b)),
-        _ => None,
-    }
+    let mut level = || words.next()?.parse::<u32>().ok();
+    Some(match name {
+        "sign" => Question::Sign,
+        "count" => Question::Count,
+        "below" => Question::Below(level()?, level()?),
+        "join" => Question::Join(level()?, level()?),
+        "meet" => Question::Meet(level()?, level()?),
+        "lowest" => Question::Lowest,
+        "highest" => Question::Highest,
+        "product" => Question::Product,
+        _ => return None,
+    })
 }
 
-fn ask<L: Lattice>(lattice: &L, question: Question) -> Answer {
-    match question {
+fn ask<L: Lattice>(lattice: &L, question: Question) -> Result<Answer, Failure> {
+    Ok(match question {
         Question::Sign => Answer::Sign(L::SIGN),
         Question::Count => Answer::Number(lattice.count()),
         Question::Below(a, b) => Answer::Test(lattice.is_below(a, b)),
@@ -80,15 +90,15 @@ fn ask<L: Lattice>(lattice: &L, question: Question) -> Answer {
         Question::Lowest => Answer::Number(lattice.lowest()),
         Question::Highest => Answer::Number(lattice.highest()),
         // Only a pair has one.
-        Question::Product => Answer::Unknown,
-    }
+        Question::Product => return Err(Failure::Unknown),
+    })
 }
 
 const PENTAGON: &[u8] = b"11111\n01011\n00101\n00011\n00001\n";
 
 // The lattices of one kind.
-fn ask_simple(name: &str, question: Question) -> Result<Option<Answer>, Refusal> {
-    Ok(Some(match name {
+fn ask_simple(name: &str, question: Question) -> Result<Answer, Failure> {
+    match name {
         "C0" => ask(&Chain::new(0)?, question),
         "C1" => ask(&Chain::new(1)?, question),
         "C2" => ask(&Chain::new(2)?, question),
@@ -100,48 +110,50 @@ fn ask_simple(name: &str, question: Question) -> Result<Option<Answer>, Refusal>
         "S16" => ask(&Sets::new(16)?, question),
         "S17" => ask(&Sets::new(17)?, question),
         "T5" => ask(&read_table(PENTAGON)?, question),
-        _ => return Ok(None),
-    }))
+        _ => Err(Failure::Unknown),
+    }
 }
 
 fn ask_pair<A: Lattice + Drop, B: Lattice + Drop>(
     first: A,
     second: B,
     question: Question,
-) -> Result<Answer, Refusal> {
+) -> Result<Answer, Failure> {
     match question {
         Question::Product => Ok(Answer::Number(pair_count(&first, &second)?)),
-        _ => Ok(ask(&Pair { first, second }, question)),
+        _ => ask(&Pair { first, second }, question),
     }
 }
 
-fn chain_and_sets(n: u32, owners: u32) -> Result<Pair<Chain, Sets>, Refusal> {
-    let first = Chain::new(n)?;
-    let second = Sets::new(owners)?;
+// The pair of two lattices, where both could be made.
+fn pair<A: Drop, B: Drop>(
+    first: Result<A, Refusal>,
+    second: Result<B, Refusal>,
+) -> Result<Pair<A, B>, Refusal> {
+    let first = first?;
+    let second = second?;
     Ok(Pair { first, second })
 }
 
-fn two_chains(m: u32, n: u32) -> Result<Pair<Chain, Chain>, Refusal> {
-    let first = Chain::new(m)?;
-    let second = Chain::new(n)?;
-    Ok(Pair { first, second })
+fn ask_pairs(name: &str, question: Question) -> Result<Answer, Failure> {
+    match name {
+        "P(C2,S2)" => ask_pair(Chain::new(2)?, Sets::new(2)?, question),
+        "P(S8,S8)" => ask_pair(Sets::new(8)?, Sets::new(8)?, question),
+        "P(C300,C300)" => ask_pair(Chain::new(300)?, Chain::new(300)?, question),
+        "P(C65536,C65536)" => ask_pair(Chain::new(65_536)?, Chain::new(65_536)?, question),
+        "P(P(C2,C3),S1)" => ask_pair(pair(Chain::new(2), Chain::new(3))?, Sets::new(1)?, question),
+        "P(C3,P(C2,S2))" => ask_pair(Chain::new(3)?, pair(Chain::new(2), Sets::new(2))?, question),
+        "P(T5,C2)" => ask_pair(read_table(PENTAGON)?, Chain::new(2)?, question),
+        "P(R(C5),S2)" => {
+            let first = Reversed { of: Chain::new(5)? };
+            ask_pair(first, Sets::new(2)?, question)
+        }
+        _ => Err(Failure::Unknown),
+    }
 }
 
-fn ask_pairs(name: &str, question: Question) -> Result<Option<Answer>, Refusal> {
-    Ok(Some(match name {
-        "P(C2,S2)" => ask_pair(Chain::new(2)?, Sets::new(2)?, question)?,
-        "P(S8,S8)" => ask_pair(Sets::new(8)?, Sets::new(8)?, question)?,
-        "P(C300,C300)" => ask_pair(Chain::new(300)?, Chain::new(300)?, question)?,
-        "P(C65536,C65536)" => ask_pair(Chain::new(65_536)?, Chain::new(65_536)?, question)?,
-        "P(P(C2,C3),S1)" => ask_pair(two_chains(2, 3)?, Sets::new(1)?, question)?,
-        "P(C3,P(C2,S2))" => ask_pair(Chain::new(3)?, chain_and_sets(2, 2)?, question)?,
-        "P(T5,C2)" => ask_pair(read_table(PENTAGON)?, Chain::new(2)?, question)?,
-        _ => return Ok(None),
-    }))
-}
-
-fn ask_reversed(name: &str, question: Question) -> Result<Option<Answer>, Refusal> {
-    Ok(Some(match name {
+fn ask_reversed(name: &str, question: Question) -> Result<Answer, Failure> {
+    match name {
         "R(C5)" => ask(&Reversed { of: Chain::new(5)? }, question),
         "R(S3)" => ask(&Reversed { of: Sets::new(3)? }, question),
         "R(T5)" => ask(
@@ -152,13 +164,13 @@ fn ask_reversed(name: &str, question: Question) -> Result<Option<Answer>, Refusa
         ),
         "R(P(C2,S2))" => ask(
             &Reversed {
-                of: chain_and_sets(2, 2)?,
+                of: pair(Chain::new(2), Sets::new(2))?,
             },
             question,
         ),
         "R(P(C300,C300))" => ask(
             &Reversed {
-                of: two_chains(300, 300)?,
+                of: pair(Chain::new(300), Chain::new(300))?,
             },
             question,
         ),
@@ -166,57 +178,38 @@ fn ask_reversed(name: &str, question: Question) -> Result<Option<Answer>, Refusa
             let of = Reversed { of: Sets::new(3)? };
             ask(&Reversed { of }, question)
         }
-        "P(R(C5),S2)" => {
-            let first = Reversed { of: Chain::new(5)? };
-            ask_pair(first, Sets::new(2)?, question)?
-        }
-        _ => return Ok(None),
-    }))
+        _ => Err(Failure::Unknown),
+    }
 }
 
 // The text that a word spells, with `/` for each line end.
 fn text_of(heap: Global, word: &str) -> Result<Vec<u8>, AllocError> {
-    let mut text = Vec::new(heap);
-    for b in word.bytes() {
-        text.push(if b == b'/' { b'\n' } else { b })?;
-    }
-    Ok(text)
+    word.bytes()
+        .map(|b| if b == b'/' { b'\n' } else { b })
+        .collect(heap)
 }
 
-fn ask_table(text: &[u8], question: Question) -> Result<Answer, Refusal> {
-    Ok(ask(&read_table(text)?, question))
+fn ask_table(text: &[u8], question: Question) -> Result<Answer, Failure> {
+    ask(&read_table(text)?, question)
 }
 
-fn ask_named(name: &str, question: Question) -> Result<Answer, Refusal> {
-    if let Some(answer) = ask_simple(name, question)? {
-        return Ok(answer);
-    }
-    if let Some(answer) = ask_pairs(name, question)? {
-        return Ok(answer);
-    }
-    match ask_reversed(name, question)? {
-        Some(answer) => Ok(answer),
-        None => Ok(Answer::Unknown),
+// A name begins with the sign of its kind.
+fn ask_named(name: &str, question: Question) -> Result<Answer, Failure> {
+    match name.chars().next() {
+        Some('P') => ask_pairs(name, question),
+        Some('R') => ask_reversed(name, question),
+        _ => ask_simple(name, question),
     }
 }
 
-fn reply(heap: Global, line: &str) -> Result<Answer, AllocError> {
-    let Some(question) = question_of(line) else {
-        return Ok(Answer::Unknown);
+// Two results, since an inner failure is an answer to print and an outer one ends the program.
+fn reply(heap: Global, line: &str) -> Result<Result<Answer, Failure>, AllocError> {
+    let (Some(question), Some(name)) = (question_of(line), line.split_whitespace().next()) else {
+        return Ok(Err(Failure::Unknown));
     };
-    let Some(name) = line.split_whitespace().next() else {
-        return Ok(Answer::Unknown);
-    };
-    let answer = match name.strip_prefix("T:") {
-        Some(word) => {
-            let text = text_of(heap, word)?;
-            ask_table(&text, question)
-        }
+    Ok(match name.strip_prefix("T:") {
+        Some(word) => ask_table(&text_of(heap, word)?, question),
         None => ask_named(name, question),
-    };
-    Ok(match answer {
-        Ok(answer) => answer,
-        Err(refusal) => Answer::Refused(refusal),
     })
 }
 
@@ -224,8 +217,10 @@ fn main(rt: HostRuntime) -> io::Result<()> {
     for line in rt.lines(rt.alloc()) {
         let line = line?;
         let text = line.as_str();
-        let answer = reply(rt.alloc(), text)?;
-        println!(rt; "{text} {answer}")?;
+        match reply(rt.alloc(), text)? {
+            Ok(answer) => println!(rt; "{text} {answer}")?,
+            Err(failure) => println!(rt; "{text} {failure}")?,
+        }
     }
     Ok(())
 }

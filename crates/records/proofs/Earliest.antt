@@ -1,28 +1,43 @@
--- The least number that passes a test, met by a loop that counts up.
-use Rattle.std.proofs.Common.{◌≡◌, ℕ, zero, suc, ◌+◌, ◌<◌, ◌≤◌, Bool, true, false, cond, Some, None, sym, refl, ap, ◌∙◌, ⊎_elim, add-one, arith}
-use Rattle.std.proofs.lemmas.Bool.{cases_lt}
-use Rattle.records.specs.Layouts.{earliest, or_else}
+-- The first section that a test finds, by its place.
+use Rattle.std.proofs.Common.{◌≡◌, ℕ, Bool, true, false, cond, Option, Some, None, Ok, Err, Result, refl, sym, ap, ◌∙◌}
+use Rattle.std.specs.List.{find}
+use Rattle.std.specs.Option.{option_map}
+use Rattle.refusal.specs.declared.Section.{Section}
+use Rattle.refusal.specs.declared.Section.TheVariants.{Tables, Variables, Blocks, Commands, Expressions}
+use Rattle.refusal.specs.declared.Refusal.{Refusal}
+use Rattle.refusal.specs.declared.Refusal.TheVariants.{BrokenLayout, OverLimit}
+use Rattle.refusal.specs.Notice.{section_number}
+use Rattle.records.specs.Layouts.{all_sections, section_at, earliest, or_else, broken, exceeded}
 
-pub earliest_none : (p : ℕ → Bool) → earliest p 0 ≡ None
+abbrev found : (ℕ → Bool) → Option Section
+found p = find (λ s. p (section_number s)) all_sections
+
+abbrev told : (Section → Refusal) → Option Section → Result (Unit {0}) Refusal
+told r None = Ok tt
+told r (Some s) = Err (r s)
+
+found_is : (p : ℕ → Bool) → option_map section_at (earliest p 5) ≡ found p
 unfolding earliest
-earliest_none p = refl
+found_is p = five (p 0) (p 1) (p 2) (p 3) (p 4)
+  where
+    five : (a b c d e : Bool) → option_map section_at (or_else (or_else (or_else (or_else (or_else None (cond a (Some 0) None)) (cond b (Some 1) None)) (cond c (Some 2) None)) (cond d (Some 3) None)) (cond e (Some 4) None)) ≡ cond a (Some Tables) (cond b (Some Variables) (cond c (Some Blocks) (cond d (Some Commands) (cond e (Some Expressions) None))))
+    five true b c d e = refl
+    five false true c d e = refl
+    five false false true d e = refl
+    five false false false true e = refl
+    five false false false false true = refl
+    five false false false false false = refl
 
-pub earliest_more : (p : ℕ → Bool) (i : ℕ) → earliest p i ≡ None → p i ≡ false → earliest p (i + 1) ≡ None
-unfolding earliest
-earliest_more p i e h = rw (add-one, e, h) refl
+broken_told : (o : Option ℕ) → broken o ≡ told BrokenLayout (option_map section_at o)
+broken_told None = refl
+broken_told (Some i) = refl
 
-earliest_here : (p : ℕ → Bool) (i : ℕ) → earliest p i ≡ None → p i ≡ true → earliest p (suc i) ≡ Some i
-unfolding earliest
-earliest_here p i e h = rw (e, h) refl
+exceeded_told : (o : Option ℕ) → exceeded o ≡ told OverLimit (option_map section_at o)
+exceeded_told None = refl
+exceeded_told (Some i) = refl
 
-earliest_keeps : (p : ℕ → Bool) (k m n : ℕ) → earliest p m ≡ Some k → m ≤ n → earliest p n ≡ Some k
-unfolding earliest
-earliest_keeps p k m zero e h = let z : m ≡ 0 = omega arith in sym (ap (earliest p) z) ∙ e
-earliest_keeps p k m (suc n) e h =
-    ⊎_elim
-    (λ lt. let z : m ≡ suc n = omega arith in sym (ap (earliest p) z) ∙ e)
-    (λ le. ap (λ o. or_else o (cond (p n) (Some n) None)) (earliest_keeps p k m n e le))
-    (cases_lt n m)
+pub broken_at : (p : ℕ → Bool) (r : Option Section) → r ≡ found p → broken (earliest p 5) ≡ told BrokenLayout r
+broken_at p r e = broken_told (earliest p 5) ∙ ap (told BrokenLayout) (found_is p ∙ sym e)
 
-pub earliest_found : (p : ℕ → Bool) (i n : ℕ) → earliest p i ≡ None → p i ≡ true → i < n → earliest p n ≡ Some i
-earliest_found p i n e h lt = earliest_keeps p i (suc i) n (earliest_here p i e h) lt
+pub exceeded_at : (p : ℕ → Bool) (r : Option Section) → r ≡ found p → exceeded (earliest p 5) ≡ told OverLimit r
+exceeded_at p r e = exceeded_told (earliest p 5) ∙ ap (told OverLimit) (found_is p ∙ sym e)

@@ -1,5 +1,5 @@
-pub mod Fields
 pub mod Earliest
 pub mod Building
 pub mod Growing
 pub mod Designs
+pub mod Tables

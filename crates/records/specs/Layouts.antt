@@ -1,11 +1,12 @@
 -- Where the sections of a design file lie, and when its layout is refused.
-use Rattle.std.specs.Prelude.{ℕ, zero, suc, ◌+◌, ◌*◌, ◌/◌, ◌%◌, min, Bool, cond, not, ◌&&◌, ◌||◌, List, [], ◌∷◌, length, drop, Some, None, Ok, Err, Option, Result, ◌==◌, nat_lt, slice_index, slice_index_or}
+use Rattle.std.specs.Prelude.{ℕ, zero, suc, ◌+◌, ◌*◌, ◌/◌, ◌%◌, min, Bool, cond, not, ◌&&◌, ◌||◌, List, [], ◌∷◌, length, map, drop, Some, None, Ok, Err, Option, Result, ◌==◌, nat_lt, slice_index_or}
 use Rattle.refusal.specs.declared.Section.{Section}
 use Rattle.refusal.specs.declared.Section.TheVariants.{Tables, Variables, Blocks, Commands, Expressions}
 use Rattle.refusal.specs.declared.Refusal.{Refusal}
 use Rattle.refusal.specs.declared.Refusal.TheVariants.{TooShort, UnknownEdition, BrokenLayout, OverLimit}
 use Rattle.refusal.specs.Notice.{section_number}
 use Rattle.records.specs.Bytes.{field_of}
+use Rattle.records.specs.declared.layout.Extent.{Extent}
 use Rattle.records.specs.declared.layout.Layout.{Layout}
 
 -- ---- the sections
@@ -24,6 +25,10 @@ sections = (64, 16) ∷ (12, 128) ∷ (8, 32) ∷ (16, 512) ∷ (16, 1024) ∷ [
 -- the section at a place in the file
 abbrev pub section_at : ℕ → Section
 section_at i = cond (i == 0) Tables (cond (i == 1) Variables (cond (i == 2) Blocks (cond (i == 3) Commands Expressions)))
+
+-- the sections, in the file's order
+abbrev pub all_sections : List Section
+all_sections = Tables ∷ Variables ∷ Blocks ∷ Commands ∷ Expressions ∷ []
 
 -- ---- the pairs of the head
 
@@ -83,8 +88,12 @@ abbrev pub after : {X : Type 0} → Result (Unit {0}) Refusal → Result X Refus
 after (Ok u) r = r
 after (Err e) r = Err e
 
-abbrev pub counted : (ℕ → ℕ) → List ℕ
-counted g = g 0 ∷ g 1 ∷ g 2 ∷ g 3 ∷ g 4 ∷ []
+-- where section i begins, and how many records it has
+abbrev pub extent_at : List ℕ → ℕ → Extent
+extent_at f i = record { offset = offset_of f i; count = count_of f i }
+
+abbrev pub extents_at : List ℕ → List Extent
+extents_at f = map (λ s. extent_at f (section_number s)) all_sections
 
 -- what finding a file's sections answers
 abbrev pub layout_of : List ℕ → Result Layout Refusal
@@ -93,9 +102,14 @@ layout_of f =
     (cond (not (field_of f 0 == 1)) (Err UnknownEdition)
     (after (broken (earliest (breaks f) section_count))
     (after (exceeded (earliest (over f) section_count))
-    (Ok (record { offsets = counted (offset_of f); counts = counted (count_of f) })))))
+    (Ok (record { extents = extents_at f })))))
 
 -- ---- sections by a layout
+
+-- a design file: its bytes, and where its sections lie
+pub record File : Type 0 where
+  pub bytes : List ℕ
+  pub layout : Layout
 
 abbrev pub size_of : Section → ℕ
 size_of s = size_at (section_number s)
@@ -103,14 +117,17 @@ size_of s = size_at (section_number s)
 abbrev pub limit_of : Section → ℕ
 limit_of s = limit_at (section_number s)
 
+abbrev pub extent_of : Layout → Section → Extent
+extent_of l s = slice_index_or l.extents (section_number s) (record { offset = 0; count = 0 })
+
 -- a section, with all that follows it
-abbrev pub section_of : List ℕ → Layout → Section → List ℕ
-section_of f l s = drop (slice_index l.offsets (section_number s)) f
+abbrev pub section_of : File → Section → List ℕ
+section_of f s = drop (extent_of f.layout s).offset f.bytes
 
 -- record n of a section, with all that follows it
-abbrev pub record_of : List ℕ → Layout → Section → ℕ → List ℕ
-record_of f l s n = drop (size_of s * n) (section_of f l s)
+abbrev pub record_of : File → Section → ℕ → List ℕ
+record_of f s n = drop (size_of s * n) (section_of f s)
 
 -- how many records a section has, its limit at most
-abbrev pub count_in : Layout → Section → ℕ
-count_in l s = min (slice_index l.counts (section_number s)) (limit_of s)
+abbrev pub count_in : File → Section → ℕ
+count_in f s = min (extent_of f.layout s).count (limit_of s)

@@ -1,142 +1,162 @@
 //! Where the sections of a design file lie.
-ghost use Rattle.std.specs.Prelude.{◌≡◌, ◌<◌, ◌≤◌, length};
+ghost use Rattle.std.specs.Prelude.{◌≡◌, ◌+◌, ◌≤◌};
+ghost use Rattle.std.specs.List.{find};
 ghost use Rattle.refusal.specs.Notice.{section_number};
-ghost use Rattle.records.specs.Layouts.{section_count, section_at, limit_of, start_of, offset_of, length_of, breaks, over, earliest, broken, exceeded, layout_of, count_of, section_of, record_of, count_in};
+ghost use Rattle.records.specs.Layouts.{section_at, all_sections, limit_of, size_of, start_of, offset_of, length_of, breaks, over, layout_of, count_of, extent_at, extents_at, extent_of};
 
-use crate::bytes::{field, part_from};
+use crate::bytes::field;
 use refusal::{Refusal, Section};
+use variables::MOST_VARIABLES;
 
 /// How many sections a design file has.
 pub const SECTION_COUNT: usize = 5;
 
+/// The most tables of a design.
+pub const MOST_TABLES: usize = 16;
+
+/// The most blocks of a design.
+pub const MOST_BLOCKS: usize = 32;
+
+/// The most commands of a design.
+pub const MOST_COMMANDS: usize = 512;
+
+/// The most expressions of a design.
+pub const MOST_EXPRESSIONS: usize = 1024;
+
 // By section: the size of a record in bytes, and the most records.
-const SECTIONS: [(u32, u32); SECTION_COUNT] = [(64, 16), (12, 128), (8, 32), (16, 512), (16, 1024)];
+const SECTIONS: [(u32, u32); SECTION_COUNT] = [
+    (64, MOST_TABLES as u32),
+    (12, MOST_VARIABLES as u32),
+    (8, MOST_BLOCKS as u32),
+    (16, MOST_COMMANDS as u32),
+    (16, MOST_EXPRESSIONS as u32),
+];
 
 // The edition, and a pair of fields for each section.
 const HEAD_LEN: usize = 4 + 8 * SECTION_COUNT;
 
 const EDITION: u32 = 1;
 
-/// Where each section begins, and how many records it has.
+/// Where a section begins, and how many records it has.
 #[derive(Clone, Copy)]
-pub struct Layout {
-    pub offsets: [u32; SECTION_COUNT],
-    pub counts: [u32; SECTION_COUNT],
+pub struct Extent {
+    pub offset: u32,
+    pub count: u32,
 }
 
-// The place of a section in the file.
-fn index_of(section: Section) -> usize
-    ensures is { result ≡ section_number section }
-    ensures low { result < section_count }
-{
-    match section {
-        Section::Tables => 0,
-        Section::Variables => 1,
-        Section::Blocks => 2,
-        Section::Commands => 3,
-        Section::Expressions => 4,
-    }
+/// Where the sections lie, in the file's order.
+#[derive(Clone, Copy)]
+pub struct Layout {
+    pub extents: [Extent; SECTION_COUNT],
 }
 
 /// The section at a place in the file; the last one past the end.
 pub fn section_at(i: usize) -> Section
     ensures { result ≡ section_at i }
 {
-    match i {
-        0 => Section::Tables,
-        1 => Section::Variables,
-        2 => Section::Blocks,
-        3 => Section::Commands,
-        _ => Section::Expressions,
+    Section::ALL.get(i).copied().unwrap_or(Section::Expressions)
+}
+
+fn offset(file: &[u8], section: Section) -> u32
+    ensures { result ≡ offset_of file.now (section_number section) }
+{
+    field(file, 8 * section as usize + 4)
+}
+
+fn len(file: &[u8], section: Section) -> u32
+    ensures { result ≡ length_of file.now (section_number section) }
+{
+    field(file, 8 * section as usize + 8)
+}
+
+// Where a section ends.
+fn end(file: &[u8], section: Section) -> u64
+    ensures { result ≡ offset_of file.now (section_number section) + length_of file.now (section_number section) }
+{
+    u64::from(offset(file, section)) + u64::from(len(file, section))
+}
+
+// Where a section has to begin: the first behind the head, each other where the one before ends.
+fn start(file: &[u8], section: Section) -> u64
+    ensures { result ≡ start_of file.now (section_number section) }
+{
+    match section {
+        Section::Tables => HEAD_LEN as u64,
+        Section::Variables => end(file, Section::Tables),
+        Section::Blocks => end(file, Section::Variables),
+        Section::Commands => end(file, Section::Blocks),
+        Section::Expressions => end(file, Section::Commands),
     }
 }
 
-fn offset(file: &[u8], i: usize) -> u32
-    requires { i < section_count }
-    ensures { result ≡ offset_of file.now i }
+// Whether the pair of a section breaks the layout.
+fn pair_breaks(file: &[u8], section: Section) -> bool
+    ensures { result ≡ breaks file.now (section_number section) }
 {
-    field(file, 8 * i + 4)
-}
-
-fn len(file: &[u8], i: usize) -> u32
-    requires { i < section_count }
-    ensures { result ≡ length_of file.now i }
-{
-    field(file, 8 * i + 8)
-}
-
-// Where section `i` has to begin.
-fn start(file: &[u8], i: usize) -> u64
-    requires { i < section_count }
-    ensures { result ≡ start_of file.now i }
-{
-    if i == 0 {
-        HEAD_LEN as u64
-    } else {
-        offset(file, i - 1) as u64 + len(file, i - 1) as u64
-    }
-}
-
-// Whether pair `i` breaks the layout.
-fn pair_breaks(file: &[u8], i: usize) -> bool
-    requires { i < section_count }
-    ensures { result ≡ breaks file.now i }
-{
-    let (size, _) = SECTIONS[i];
-    let begin = offset(file, i) as u64;
-    let length = len(file, i);
-    let end = begin + length as u64;
+    let end = end(file, section);
     let all = file.len() as u64;
-    begin != start(file, i)
-        || length % size != 0
+    u64::from(offset(file, section)) != start(file, section)
+        || len(file, section) % size_of(section) != 0
         || end > all
-        || i + 1 == SECTION_COUNT && end != all
+        || section == Section::Expressions && end != all
 }
 
-// How many records section `i` has.
-fn count(file: &[u8], i: usize) -> u32
-    requires { i < section_count }
-    ensures { result ≡ count_of file.now i }
+// How many records a section has.
+fn count(file: &[u8], section: Section) -> u32
+    ensures { result ≡ count_of file.now (section_number section) }
 {
-    let (size, _) = SECTIONS[i];
-    len(file, i) / size
+    len(file, section) / size_of(section)
 }
 
-// Whether section `i` has too many records.
-fn section_over(file: &[u8], i: usize) -> bool
-    requires { i < section_count }
-    ensures { result ≡ over file.now i }
+// Whether a section has too many records.
+fn section_over(file: &[u8], section: Section) -> bool
+    ensures { result ≡ over file.now (section_number section) }
 {
-    let (_, limit) = SECTIONS[i];
-    limit < count(file, i)
+    limit_of(section) < count(file, section)
 }
 
-// Refuses the first pair that breaks the layout.
-fn check_pairs(file: &[u8]) -> Result<(), Refusal>
-    ensures { result ≡ broken (earliest (breaks file.now) section_count) }
+// Where a section begins, and how many records it has.
+fn extent_at(file: &[u8], section: Section) -> Extent
+    ensures { result ≡ extent_at file.now (section_number section) }
 {
-    for i in 0..SECTION_COUNT {
-        if pair_breaks(file, i) {
-            return Err(Refusal::BrokenLayout {
-                section: section_at(i),
-            });
-        }
+    Extent {
+        offset: offset(file, section),
+        count: count(file, section),
     }
-    Ok(())
 }
 
-// Refuses the first section that has too many records.
-fn check_limits(file: &[u8]) -> Result<(), Refusal>
-    ensures { result ≡ exceeded (earliest (over file.now) section_count) }
+// The extents of all sections.
+// One by one: of `map` over an array a proof does not learn the items.
+fn extents_at(file: &[u8]) -> [Extent; SECTION_COUNT]
+    ensures { result ≡ extents_at file.now }
 {
-    for i in 0..SECTION_COUNT {
-        if section_over(file, i) {
-            return Err(Refusal::OverLimit {
-                section: section_at(i),
-            });
-        }
-    }
-    Ok(())
+    [
+        extent_at(file, Section::Tables),
+        extent_at(file, Section::Variables),
+        extent_at(file, Section::Blocks),
+        extent_at(file, Section::Commands),
+        extent_at(file, Section::Expressions),
+    ]
+}
+
+// The first section whose pair breaks the layout.
+fn first_broken(file: &[u8]) -> Option<Section>
+    ensures { result ≡ find (λ s. breaks file.now (section_number s)) all_sections }
+{
+    Section::ALL
+        .iter()
+        .copied()
+        .find(|section| pair_breaks(file, *section))
+}
+
+// The first section that has too many records.
+fn first_over(file: &[u8]) -> Option<Section>
+    ensures { result ≡ find (λ s. over file.now (section_number s)) all_sections }
+{
+    Section::ALL
+        .iter()
+        .copied()
+        .find(|section| section_over(file, *section))
 }
 
 /// Finds the sections of a design file, or refuses it.
@@ -149,23 +169,14 @@ pub fn layout_of(file: &[u8]) -> Result<Layout, Refusal>
     if field(file, 0) != EDITION {
         return Err(Refusal::UnknownEdition);
     }
-    check_pairs(file)?;
-    check_limits(file)?;
+    if let Some(section) = first_broken(file) {
+        return Err(Refusal::BrokenLayout { section });
+    }
+    if let Some(section) = first_over(file) {
+        return Err(Refusal::OverLimit { section });
+    }
     Ok(Layout {
-        offsets: [
-            offset(file, 0),
-            offset(file, 1),
-            offset(file, 2),
-            offset(file, 3),
-            offset(file, 4),
-        ],
-        counts: [
-            count(file, 0),
-            count(file, 1),
-            count(file, 2),
-            count(file, 3),
-            count(file, 4),
-        ],
+        extents: extents_at(file),
     })
 }
 
@@ -173,31 +184,25 @@ pub fn layout_of(file: &[u8]) -> Result<Layout, Refusal>
 pub fn limit_of(section: Section) -> u32
     ensures { result ≡ limit_of section }
 {
-    let (_, limit) = SECTIONS[index_of(section)];
+    let (_, limit) = SECTIONS[section as usize];
     limit
 }
 
+// The size of a section's records in bytes.
+pub(crate) fn size_of(section: Section) -> u32
+    ensures is { result ≡ size_of section }
+    ensures some { 1 ≤ result }
+    ensures most { result ≤ 64 }
+{
+    let (size, _) = SECTIONS[section as usize];
+    size
+}
+
 impl Layout {
-    /// How many records a section has, its limit at most.
-    pub fn count(self, section: Section) -> u32
-        ensures is { result ≡ count_in self section }
-        ensures most { result ≤ limit_of section }
+    /// The extent of a section.
+    pub fn extent(self, section: Section) -> Extent
+        ensures { result ≡ extent_of self section }
     {
-        self.counts[index_of(section)].min(limit_of(section))
-    }
-
-    /// A section, with all that follows it.
-    pub fn part(self, file: &[u8], section: Section) -> &[u8]
-        ensures { result.now ≡ section_of file.now self section }
-    {
-        part_from(file, self.offsets[index_of(section)] as usize)
-    }
-
-    /// Record `n` of a section, with all that follows it.
-    pub fn record(self, file: &[u8], section: Section, n: u32) -> &[u8]
-        ensures { result.now ≡ record_of file.now self section n }
-    {
-        let (size, _) = SECTIONS[index_of(section)];
-        part_from(self.part(file, section), size as usize * n as usize)
+        self.extents[section as usize]
     }
 }

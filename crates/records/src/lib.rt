@@ -3,13 +3,19 @@
 
 mod bytes;
 mod cells;
+mod codes;
+mod file;
+mod labels;
 mod layout;
 mod nodes;
 
 pub use bytes::{byte, field, part_from};
-pub use cells::{
-    Block, BlockKind, Command, Expression, Form, Kind, Operation, Pairing, Step, Variable,
-    block_at, command_at, expression_at, variable_at,
+pub use cells::{Block, Command, Expression, Variable};
+pub use codes::{BlockKind, Form, Kind, Operation, Step, UnknownCode};
+pub use file::{DesignFile, ENTRIES};
+pub use labels::Label;
+pub use layout::{
+    Extent, Layout, MOST_BLOCKS, MOST_COMMANDS, MOST_EXPRESSIONS, MOST_TABLES, SECTION_COUNT,
+    layout_of, limit_of, section_at,
 };
-pub use layout::{Layout, SECTION_COUNT, layout_of, limit_of, section_at};
-pub use nodes::{Action, Node, action_at, node_at};
+pub use nodes::{Action, Node};

@@ -1,11 +1,12 @@
 //! What commands and expressions are: each record with its parts, which are records with lower numbers.
 ghost use Rattle.std.specs.Prelude.{◌≡◌, ◌≤◌};
 ghost use Rattle.records.specs.Nodes.{action_of, operand_of, node_of, LowerParts, LowerOperands};
-ghost use Rattle.records.specs.Trees.{grow_expr, grow_cmd, expr_at, cmd_at};
 
-use crate::cells::{Command, Expression, Operation, Pairing, Step, command_at, expression_at};
-use crate::layout::{Layout, limit_of};
+use crate::cells::{Command, Expression};
+use crate::codes::{Operation, Step};
+use crate::layout::limit_of;
 use refusal::Section;
+use vectors::{Pairing, fits};
 
 /// A command; its parts are record numbers.
 #[derive(Clone, Copy)]
@@ -31,8 +32,6 @@ pub enum Action {
 /// An expression; its parts are record numbers.
 #[derive(Clone, Copy)]
 pub enum Node {
-    /// A record out of range; its value is 0.
-    Nothing,
     Constant {
         width: u8,
         value: u32,
@@ -81,22 +80,25 @@ pub enum Node {
     },
 }
 
+/// What stands for an expression out of range: the constant 0 of no width.
+pub(crate) const NOTHING: Node = Node::Constant { width: 0, value: 0 };
+
 // What command record `n` does; one out of range does nothing.
-fn action_of(x: Command, n: u32) -> Action
+pub(crate) fn action_of(x: Command, n: u32) -> Action
     ensures is { result ≡ action_of x n }
     ensures lower { LowerParts result n }
 {
     match x.step {
-        Step::Both if x.a < n && x.b < n => Action::Both {
+        Some(Step::Both) if x.a < n && x.b < n => Action::Both {
             first: x.a,
             second: x.b,
         },
-        Step::Choose if x.b < n && x.c < n => Action::Choose {
+        Some(Step::Choose) if x.b < n && x.c < n => Action::Choose {
             condition: x.a,
             yes: x.b,
             no: x.c,
         },
-        Step::Assign if x.a < limit_of(Section::Variables) => Action::Assign {
+        Some(Step::Assign) if x.a < limit_of(Section::Variables) => Action::Assign {
             target: x.a,
             value: x.b,
             place: n,
@@ -105,89 +107,69 @@ fn action_of(x: Command, n: u32) -> Action
     }
 }
 
-// What expression record `n` is, where its width is 1 to 32.
+// What expression record `n` is, but for its width.
 fn operand_of(x: Expression, n: u32) -> Node
-    requires { x.width ≤ 32 }
     ensures is { result ≡ operand_of x n }
     ensures lower { LowerOperands result n }
 {
     let width = x.width;
     let one = x.a < n;
     let two = one && x.b < n;
-    let shift = one && x.b < width as u32;
+    let shift = one && x.b < u32::from(width);
     match x.operation {
-        Operation::Constant if (x.a as u64) < 1u64 << width => Node::Constant { width, value: x.a },
-        Operation::Variable => Node::Variable {
+        Some(Operation::Constant) if fits(x.a, u32::from(width)) => Node::Constant {
+            width,
+            value: x.a,
+        },
+        Some(Operation::Variable) => Node::Variable {
             width,
             variable: x.a,
             place: n,
         },
-        Operation::Not if one => Node::Not { width, of: x.a },
-        Operation::Pair(by) if two => Node::Pair {
+        Some(Operation::Not) if one => Node::Not { width, of: x.a },
+        Some(Operation::Pair(by)) if two => Node::Pair {
             width,
             by,
             left: x.a,
             right: x.b,
         },
-        Operation::ShiftLeft if shift => Node::ShiftLeft {
+        Some(Operation::ShiftLeft) if shift => Node::ShiftLeft {
             width,
             of: x.a,
             by: x.b,
         },
-        Operation::ShiftRight if shift => Node::ShiftRight {
+        Some(Operation::ShiftRight) if shift => Node::ShiftRight {
             width,
             of: x.a,
             by: x.b,
         },
-        Operation::Part if one => Node::Part {
+        Some(Operation::Part) if one => Node::Part {
             width,
             of: x.a,
             from: x.b,
         },
-        Operation::Above if two => Node::Above {
+        Some(Operation::Above) if two => Node::Above {
             width,
             high: x.a,
             low: x.b,
         },
-        Operation::Choose if two && x.c < n => Node::Choose {
+        Some(Operation::Choose) if two && x.c < n => Node::Choose {
             width,
             condition: x.a,
             yes: x.b,
             no: x.c,
         },
-        _ => Node::Nothing,
+        _ => NOTHING,
     }
 }
 
 // What expression record `n` is; one out of range is nothing.
-fn node_of(x: Expression, n: u32) -> Node
+pub(crate) fn node_of(x: Expression, n: u32) -> Node
     ensures is { result ≡ node_of x n }
     ensures lower { LowerOperands result n }
 {
     if x.width == 0 || x.width > 32 {
-        return Node::Nothing;
+        return NOTHING;
     }
     operand_of(x, n)
-}
-
-/// What command `n` does.
-pub fn action_at(file: &[u8], l: Layout, n: u32) -> Action
-    ensures lower { LowerParts result n }
-    ensures tree { cmd_at file.now l n ≡ grow_cmd (expr_at file.now l) result (cmd_at file.now l) }
-{
-    if n >= limit_of(Section::Commands) {
-        return Action::Idle;
-    }
-    action_of(command_at(file, l, n), n)
-}
-
-/// What expression `n` is.
-pub fn node_at(file: &[u8], l: Layout, n: u32) -> Node
-    ensures lower { LowerOperands result n }
-    ensures tree { expr_at file.now l n ≡ grow_expr result (expr_at file.now l) }
-{
-    if n >= limit_of(Section::Expressions) {
-        return Node::Nothing;
-    }
-    node_of(expression_at(file, l, n), n)
 }

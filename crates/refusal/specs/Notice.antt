@@ -1,5 +1,6 @@
 -- What a refusal tells its caller: its number, and the section and the record that it is about.
-use Rattle.std.specs.Prelude.{ℕ, List, ◌++◌, codes, decimal}
+use Rattle.std.specs.Prelude.{◌≡◌, ℕ, Option, None, Some, List, ◌++◌, codes, decimal}
+use Rattle.refusal.specs.declared.Place.{Place}
 use Rattle.refusal.specs.declared.Section.{Section}
 use Rattle.refusal.specs.declared.Section.TheVariants.{Tables, Variables, Blocks, Commands, Expressions}
 use Rattle.refusal.specs.declared.Refusal.{Refusal}
@@ -44,6 +45,19 @@ notice (NoValue v) = at 19 1 v
 notice (Hidden v) = at 20 1 v
 notice OutsideLimits = at 21 0 0
 notice NotALattice = at 22 0 0
+
+-- whether a refusal is about a record or a section of a design file
+abbrev pub IsAboutPlace : Refusal → Type 0
+IsAboutPlace TooShort = ⊥
+IsAboutPlace UnknownEdition = ⊥
+IsAboutPlace OutsideLimits = ⊥
+IsAboutPlace NotALattice = ⊥
+IsAboutPlace _ = Unit {0}
+
+-- a notice tells of this place, and of none by 0 and 0
+abbrev pub Tells : Notice → Option Place → Type 0
+Tells n None = (n.section ≡ 0) × (n.«record» ≡ 0)
+Tells n (Some p) = (n.section ≡ section_number p.section) × (n.«record» ≡ p.«record»)
 
 -- a notice as it is printed
 abbrev pub line : Notice → List ℕ

@@ -1,44 +1,47 @@
 //! Every refusal that a caller can meet, with its number and its place.
 #![tactic(auto)]
 
-ghost use Rattle.std.specs.Prelude.{◌≡◌, Some};
-ghost use Rattle.refusal.specs.Notice.{notice, section_number, line};
+ghost use Rattle.std.specs.Prelude.{◌≡◌, ◌↔◌, Some, IsSome};
+ghost use Rattle.refusal.specs.Notice.{notice, section_number, line, IsAboutPlace, Tells};
 
 use std::fmt;
 
-/// The five sections of a design file, in the file's order.
-#[derive(Clone, Copy, PartialEq, Eq)]
+/// The five sections of a design file, each with its number there.
+#[derive(Clone, Copy, Debug, PartialEq, Eq)]
 pub enum Section {
-    Tables,
-    Variables,
-    Blocks,
-    Commands,
-    Expressions,
+    Tables = 0,
+    Variables = 1,
+    Blocks = 2,
+    Commands = 3,
+    Expressions = 4,
 }
 
 impl Section {
+    /// The sections, in the file's order.
+    pub const ALL: [Section; 5] = [
+        Section::Tables,
+        Section::Variables,
+        Section::Blocks,
+        Section::Commands,
+        Section::Expressions,
+    ];
+
     pub fn number(self) -> u32
         ensures { result ≡ section_number self }
     {
-        match self {
-            Section::Tables => 0,
-            Section::Variables => 1,
-            Section::Blocks => 2,
-            Section::Commands => 3,
-            Section::Expressions => 4,
-        }
+        self as u32
     }
 }
 
 /// A record of a design file.
-#[derive(Clone, Copy, PartialEq, Eq)]
+#[derive(Clone, Copy, Debug, PartialEq, Eq)]
 pub struct Place {
     pub section: Section,
     pub record: u32,
 }
 
 /// Why a call was refused. docs/REFUSALS.md tells when each is given.
-#[derive(Clone, Copy)]
+#[derive(Clone, Copy, Debug, PartialEq, Eq)]
 pub enum Refusal {
     // A design file: its layout.
     TooShort,
@@ -137,62 +140,51 @@ impl Refusal {
         }
     }
 
-    /// The section of what the refusal is about, 0 where it is about no record.
-    pub fn section(self) -> u32
-        ensures { result ≡ (notice self).section }
+    /// The record that the refusal is about: the first of its section, where it is about the section itself.
+    pub fn place(self) -> Option<Place>
+        ensures some { IsSome result ↔ IsAboutPlace self }
+        ensures told { Tells (notice self) result }
     {
-        match self {
+        let (section, record) = match self {
             Refusal::TooShort
             | Refusal::UnknownEdition
             | Refusal::OutsideLimits
-            | Refusal::NotALattice => 0,
-            Refusal::BrokenLayout { section } | Refusal::OverLimit { section } => section.number(),
+            | Refusal::NotALattice => return None,
+            Refusal::BrokenLayout { section } | Refusal::OverLimit { section } => (section, 0),
             Refusal::OutOfRange { place }
             | Refusal::Misused { place }
             | Refusal::WidthMismatch { place }
             | Refusal::BadAssignment { place }
-            | Refusal::NoLevel { place } => place.section.number(),
-            Refusal::EarlyRead { .. } => Section::Expressions.number(),
-            Refusal::FlowTooHigh { .. } | Refusal::ConditionTooHigh { .. } => {
-                Section::Commands.number()
+            | Refusal::NoLevel { place } => return Some(place),
+            Refusal::EarlyRead { expression } => (Section::Expressions, expression),
+            Refusal::FlowTooHigh { command, .. } | Refusal::ConditionTooHigh { command } => {
+                (Section::Commands, command)
             }
-            Refusal::BadSelector { .. }
-            | Refusal::SelectorTooHigh { .. }
-            | Refusal::NotAPort { .. }
-            | Refusal::ValueTooWide { .. }
-            | Refusal::NotAVariable { .. }
-            | Refusal::NotAWatcher { .. }
-            | Refusal::NoValue { .. }
-            | Refusal::Hidden { .. } => Section::Variables.number(),
-        }
+            Refusal::NotAPort { number } | Refusal::NotAVariable { number } => {
+                (Section::Variables, number)
+            }
+            Refusal::BadSelector { variable }
+            | Refusal::SelectorTooHigh { variable }
+            | Refusal::ValueTooWide { variable }
+            | Refusal::NotAWatcher { variable }
+            | Refusal::NoValue { variable }
+            | Refusal::Hidden { variable } => (Section::Variables, variable),
+        };
+        Some(Place { section, record })
+    }
+
+    /// The section of what the refusal is about, 0 where it is about no record.
+    pub fn section(self) -> u32
+        ensures { result ≡ (notice self).section }
+    {
+        self.place().map_or(0, |place| place.section.number())
     }
 
     /// The record of what the refusal is about, 0 where it is about no record.
     pub fn record(self) -> u32
         ensures { result ≡ (notice self).«record» }
     {
-        match self {
-            Refusal::TooShort
-            | Refusal::UnknownEdition
-            | Refusal::BrokenLayout { .. }
-            | Refusal::OverLimit { .. }
-            | Refusal::OutsideLimits
-            | Refusal::NotALattice => 0,
-            Refusal::OutOfRange { place }
-            | Refusal::Misused { place }
-            | Refusal::WidthMismatch { place }
-            | Refusal::BadAssignment { place }
-            | Refusal::NoLevel { place } => place.record,
-            Refusal::EarlyRead { expression } => expression,
-            Refusal::FlowTooHigh { command, .. } | Refusal::ConditionTooHigh { command } => command,
-            Refusal::NotAPort { number } | Refusal::NotAVariable { number } => number,
-            Refusal::BadSelector { variable }
-            | Refusal::SelectorTooHigh { variable }
-            | Refusal::ValueTooWide { variable }
-            | Refusal::NotAWatcher { variable }
-            | Refusal::NoValue { variable }
-            | Refusal::Hidden { variable } => variable,
-        }
+        self.place().map_or(0, |place| place.record)
     }
 }
 
@@ -204,12 +196,5 @@ impl fmt::Display for Refusal {
         let section = self.section();
         let record = self.record();
         write!(f, "refused {number} {section} {record}")
-    }
-}
-
-// As it is printed: what a derive would write of two and twenty cases is long to prove.
-impl fmt::Debug for Refusal {
-    fn fmt<W: fmt::Write>(&self, f: &mut fmt::Formatter<W>) -> fmt::Result {
-        write!(f, "{self}")
     }
 }

@@ -1,10 +1,9 @@
--- Which refusal the records of a section, and of a file, get for breaking a rule: that of the first record that breaks it.
-use Rattle.std.specs.Prelude.{ℕ, zero, suc, cond, List, Some, None, Option}
+-- Which refusal the records of a section, and of a file, get for breaking a rule, and for breaking any: that of the first record that breaks it.
+use Rattle.std.specs.Prelude.{ℕ, zero, suc, cond, Some, None, Ok, Err, Option, Result, ◌==◌}
 use Rattle.refusal.specs.declared.Section.{Section}
 use Rattle.refusal.specs.declared.Refusal.{Refusal}
 use Rattle.refusal.specs.declared.Refusal.TheVariants.{OutOfRange, Misused, WidthMismatch, BadAssignment, EarlyRead, BadSelector}
-use Rattle.records.specs.declared.layout.Layout.{Layout}
-use Rattle.records.specs.Layouts.{section_count, section_at, or_else, count_in}
+use Rattle.records.specs.Layouts.{File, section_count, section_at, or_else, count_in}
 use Rattle.rules.specs.declared.Rule.{Rule}
 use Rattle.rules.specs.declared.Rule.TheVariants.{Range, Use, Width, Assignment, Reading, Selector}
 use Rattle.rules.specs.Rules.{offends}
@@ -23,11 +22,28 @@ unfoldable pub first : {A : Type 0} → (ℕ → Option A) → ℕ → Option A
 first g zero = None
 first g (suc n) = or_else (first g n) (g n)
 
-abbrev pub refused_at : List ℕ → Layout → Rule → Section → ℕ → Option Refusal
-refused_at f l r s n = cond (offends f l r s n) (Some (refusal_of r s n)) None
+abbrev pub refused_at : File → Rule → Section → ℕ → Option Refusal
+refused_at f r s n = cond (offends f r s n) (Some (refusal_of r s n)) None
 
-abbrev pub refused_in : List ℕ → Layout → Rule → Section → Option Refusal
-refused_in f l r s = first (refused_at f l r s) (count_in l s)
+abbrev pub refused_in : File → Rule → Section → Option Refusal
+refused_in f r s = first (refused_at f r s) (count_in f s)
 
-abbrev pub refused_by : List ℕ → Layout → Rule → Option Refusal
-refused_by f l r = first (λ i. refused_in f l r (section_at i)) section_count
+abbrev pub refused_by : File → Rule → Option Refusal
+refused_by f r = first (λ i. refused_in f r (section_at i)) section_count
+
+-- ---- all rules
+
+abbrev pub rule_count : ℕ
+rule_count = 6
+
+-- the rules by the numbers of their refusals
+abbrev pub rule_at : ℕ → Rule
+rule_at k = cond (k == 0) Range (cond (k == 1) Use (cond (k == 2) Width (cond (k == 3) Assignment (cond (k == 4) Reading Selector))))
+
+abbrev pub form_refusal : File → Option Refusal
+form_refusal f = first (λ k. refused_by f (rule_at k)) rule_count
+
+-- what a check answers that found this
+abbrev pub checked : Option Refusal → Result (Unit {0}) Refusal
+checked None = Ok tt
+checked (Some r) = Err r

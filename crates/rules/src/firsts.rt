@@ -1,10 +1,12 @@
 //! Which record breaks a rule first.
-ghost use Rattle.std.specs.Prelude.{◌≡◌};
-ghost use Rattle.rules.specs.First.{refusal_of, refused_in, refused_by};
-ghost use Rattle.rules.specs.Rules.{Knows};
+ghost use Rattle.std.specs.Prelude.{◌≡◌, ℕ, ◌<◌, Bool};
+ghost use Rattle.refusal.specs.declared.Section.{Section};
+ghost use Rattle.records.specs.Layouts.{count_in};
+ghost use Rattle.rules.specs.Rules.{offends};
+ghost use Rattle.rules.specs.First.{refusal_of, refused_in, refused_by, checked};
 
-use crate::{Facts, Rule, breaks, facts_for};
-use records::{Layout, SECTION_COUNT, section_at};
+use crate::Rule;
+use records::DesignFile;
 use refusal::{Place, Refusal, Section};
 
 // The refusal of a record that breaks a rule.
@@ -22,29 +24,40 @@ fn refusal_of(rule: Rule, section: Section, record: u32) -> Refusal
     }
 }
 
-// The first record of a section that breaks a rule.
-fn first_in(file: &[u8], l: Layout, facts: &Facts, rule: Rule, section: Section) -> Option<Refusal>
-    requires { Knows file.now l rule facts.now }
-    ensures { result ≡ refused_in file.now l rule section }
+// Refuses the first record of a section that a test finds.
+#[tactic(auto, using(crate::proofs::Searches::none_yet, crate::proofs::Searches::passed, crate::proofs::Searches::refused_here))]
+fn refuse_in<F: Fn(Section, u32) -> bool>(
+    file: &DesignFile<'_>,
+    rule: Rule,
+    section: Section,
+    breaks: &F,
+) -> Result<(), Refusal>
+    requires callable { F.IsAlwaysCallable breaks.now }
+    requires tests { (n : ℕ) (r : Bool) → n < count_in file.now section → F.post breaks.now section n r → r ≡ offends file.now rule section n }
+    ensures { result ≡ checked (refused_in file.now rule section) }
 {
-    for n in 0..l.count(section) {
-        if breaks(file, l, facts, rule, section, n) {
-            return Some(refusal_of(rule, section, n));
+    // A `for`: with `find`, whose test is told only of records that there are, two answers would be left to write.
+    for n in 0..file.count(section) {
+        if breaks(section, n) {
+            return Err(refusal_of(rule, section, n));
         }
     }
-    None
+    Ok(())
 }
 
-/// The refusal of the first record that breaks a rule, if there is one.
-pub fn first_by(file: &[u8], l: Layout, rule: Rule) -> Option<Refusal>
-    ensures { result ≡ refused_by file.now l rule }
+// Refuses the first record that breaks a rule, by a test of the rule.
+#[tactic(auto, using(crate::proofs::Searches::no_section_yet, crate::proofs::Searches::all_passed))]
+pub(crate) fn refuse_first<F: Fn(Section, u32) -> bool>(
+    file: &DesignFile<'_>,
+    rule: Rule,
+    breaks: F,
+) -> Result<(), Refusal>
+    requires callable { F.IsAlwaysCallable breaks }
+    requires tests { (s : Section) (n : ℕ) (r : Bool) → n < count_in file.now s → F.post breaks s n r → r ≡ offends file.now rule s n }
+    ensures { result ≡ checked (refused_by file.now rule) }
 {
-    let facts = facts_for(file, l, rule);
-    for i in 0..SECTION_COUNT {
-        match first_in(file, l, &facts, rule, section_at(i)) {
-            Some(r) => return Some(r),
-            None => {}
-        }
+    for section in Section::ALL {
+        refuse_in(file, rule, section, &breaks)?;
     }
-    None
+    Ok(())
 }

@@ -1,15 +1,13 @@
-//! The rules of form: whether a record breaks one.
+//! The rules of form: which record of a design file breaks one first.
 #![tactic(auto)]
 
-ghost use Rattle.std.specs.Prelude.{◌≡◌, ◌<◌};
-ghost use Rattle.records.specs.Layouts.{count_in};
-ghost use Rattle.rules.specs.Parts.{misused};
-ghost use Rattle.rules.specs.Blocks.{misassigns, hasty, misguided};
-ghost use Rattle.rules.specs.Rules.{offends, CountsIn, SurveyedIn, Knows};
+ghost use Rattle.std.specs.Prelude.{◌≡◌};
+ghost use Rattle.rules.specs.declared.Rule.TheVariants.{Range, Use, Width, Assignment, Reading, Selector};
+ghost use Rattle.rules.specs.First.{refused_by, form_refusal, checked};
 
-use records::Layout;
-use refusal::Section;
-use survey::{Survey, Uses, survey_of, uses_of};
+use records::DesignFile;
+use refusal::Refusal;
+use survey::{Survey, Uses};
 
 mod blocks;
 mod firsts;
@@ -17,7 +15,11 @@ mod parts;
 mod ranges;
 mod widths;
 
-pub use firsts::first_by;
+use blocks::{is_hasty, is_misassigned, is_misguided};
+use firsts::refuse_first;
+use parts::is_misused;
+use ranges::is_out_of_range;
+use widths::is_misfit;
 
 /// The rules, in the order in which they are asked.
 #[derive(Clone, Copy)]
@@ -36,92 +38,77 @@ pub enum Rule {
     Selector,
 }
 
-/// What deciding a rule takes besides the record asked for.
-#[derive(Drop)]
-pub(crate) enum Facts {
-    Plain,
-    Counted(Uses),
-    Walked(Survey),
+fn check_ranges(file: &DesignFile<'_>) -> Result<(), Refusal>
+    ensures { result ≡ checked (refused_by file.now Range) }
+{
+    refuse_first(file, Rule::Range, |s, n| is_out_of_range(file, s, n))
 }
 
-/// What deciding a rule takes. The blocks are walked for the last three rules, which are asked where the second one holds:
-/// then a walk meets each record once.
-pub(crate) fn facts_for(file: &[u8], l: Layout, rule: Rule) -> Facts
-    ensures { Knows file.now l rule result }
+fn check_uses(file: &DesignFile<'_>) -> Result<(), Refusal>
+    ensures { result ≡ checked (refused_by file.now Use) }
+{
+    // `&*`: lent again, for the one lifetime that `Uses` names.
+    let uses = Uses::of(&*file);
+    refuse_first(file, Rule::Use, |s, n| is_misused(&uses, s, n))
+}
+
+fn check_widths(file: &DesignFile<'_>) -> Result<(), Refusal>
+    ensures { result ≡ checked (refused_by file.now Width) }
+{
+    refuse_first(file, Rule::Width, |s, n| is_misfit(file, s, n))
+}
+
+fn check_assignments(survey: &Survey<'_>) -> Result<(), Refusal>
+    ensures { result ≡ checked (refused_by survey.now.file.now Assignment) }
+{
+    refuse_first(
+        survey.file,
+        Rule::Assignment,
+        |s, n| is_misassigned(survey, s, n),
+    )
+}
+
+fn check_readings(survey: &Survey<'_>) -> Result<(), Refusal>
+    ensures { result ≡ checked (refused_by survey.now.file.now Reading) }
+{
+    refuse_first(survey.file, Rule::Reading, |s, n| is_hasty(survey, s, n))
+}
+
+fn check_selectors(survey: &Survey<'_>) -> Result<(), Refusal>
+    ensures { result ≡ checked (refused_by survey.now.file.now Selector) }
+{
+    refuse_first(
+        survey.file,
+        Rule::Selector,
+        |s, n| is_misguided(survey, s, n),
+    )
+}
+
+/// Refuses the first record that breaks one rule.
+pub fn check_rule(file: &DesignFile<'_>, rule: Rule) -> Result<(), Refusal>
+    ensures { result ≡ checked (refused_by file.now rule) }
 {
     match rule {
-        Rule::Range => Facts::Plain,
-        Rule::Use => Facts::Counted(uses_of(file, l)),
-        Rule::Width => Facts::Plain,
-        Rule::Assignment => Facts::Walked(survey_of(file, l)),
-        Rule::Reading => Facts::Walked(survey_of(file, l)),
-        Rule::Selector => Facts::Walked(survey_of(file, l)),
+        Rule::Range => check_ranges(file),
+        Rule::Use => check_uses(file),
+        Rule::Width => check_widths(file),
+        Rule::Assignment => check_assignments(&Survey::of(&*file)),
+        Rule::Reading => check_readings(&Survey::of(&*file)),
+        Rule::Selector => check_selectors(&Survey::of(&*file)),
     }
 }
 
-fn breaks_use(file: &[u8], l: Layout, facts: &Facts, section: Section, n: u32) -> bool
-    requires knows { CountsIn file.now l facts.now }
-    requires low { n < count_in l section }
-    ensures { result ≡ misused file.now l section n }
+/// Refuses the first record that breaks a rule, in the order of the rules.
+#[tactic(auto, using(crate::proofs::Searches::in_order))]
+pub fn check_rules(file: &DesignFile<'_>) -> Result<(), Refusal>
+    ensures { result ≡ checked (form_refusal file.now) }
 {
-    match facts {
-        Facts::Counted(uses) => parts::is_misused(file, l, uses, section, n),
-        _ => false,
-    }
-}
-
-fn breaks_assignment(file: &[u8], l: Layout, facts: &Facts, section: Section, n: u32) -> bool
-    requires knows { SurveyedIn file.now l facts.now }
-    requires low { n < count_in l section }
-    ensures { result ≡ misassigns file.now l section n }
-{
-    match facts {
-        Facts::Walked(survey) => blocks::is_misassigned(file, l, survey, section, n),
-        _ => false,
-    }
-}
-
-fn breaks_reading(file: &[u8], l: Layout, facts: &Facts, section: Section, n: u32) -> bool
-    requires knows { SurveyedIn file.now l facts.now }
-    requires low { n < count_in l section }
-    ensures { result ≡ hasty file.now l section n }
-{
-    match facts {
-        Facts::Walked(survey) => blocks::is_hasty(survey, section, n),
-        _ => false,
-    }
-}
-
-fn breaks_selector(file: &[u8], l: Layout, facts: &Facts, section: Section, n: u32) -> bool
-    requires knows { SurveyedIn file.now l facts.now }
-    requires low { n < count_in l section }
-    ensures { result ≡ misguided file.now l section n }
-{
-    match facts {
-        Facts::Walked(survey) => blocks::is_misguided(file, l, survey, section, n),
-        _ => false,
-    }
-}
-
-/// Whether record `n` of a section breaks a rule.
-pub(crate) fn breaks(
-    file: &[u8],
-    l: Layout,
-    facts: &Facts,
-    rule: Rule,
-    section: Section,
-    n: u32,
-) -> bool
-    requires knows { Knows file.now l rule facts.now }
-    requires low { n < count_in l section }
-    ensures { result ≡ offends file.now l rule section n }
-{
-    match rule {
-        Rule::Range => ranges::is_out_of_range(file, l, section, n),
-        Rule::Use => breaks_use(file, l, facts, section, n),
-        Rule::Width => widths::is_misfit(file, l, section, n),
-        Rule::Assignment => breaks_assignment(file, l, facts, section, n),
-        Rule::Reading => breaks_reading(file, l, facts, section, n),
-        Rule::Selector => breaks_selector(file, l, facts, section, n),
-    }
+    check_ranges(file)?;
+    check_uses(file)?;
+    check_widths(file)?;
+    // Each record is used at most once here, so the walk over the blocks meets it once.
+    let survey = Survey::of(&*file);
+    check_assignments(&survey)?;
+    check_readings(&survey)?;
+    check_selectors(&survey)
 }

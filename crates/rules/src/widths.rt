@@ -1,74 +1,57 @@
 //! Widths fit.
 ghost use Rattle.std.specs.Prelude.{◌≡◌, ◌+◌};
 ghost use Rattle.language.specs.Form.{of_op};
-ghost use Rattle.records.specs.Trees.{op_of};
+ghost use Rattle.vectors.specs.Operations.{op_of};
 ghost use Rattle.rules.specs.Widths.{wide, var_wide, command_misfit, expr_misfit, misfits};
 
-use records::{
-    Command, Expression, Layout, Operation, Pairing, Step, command_at, expression_at, variable_at,
-};
+use records::{Command, DesignFile, Expression, Operation, Step};
 use refusal::Section;
-
-// The width of expression `e`.
-fn width_at(file: &[u8], l: Layout, e: u32) -> u8
-    ensures { result ≡ wide file.now l e }
-{
-    expression_at(file, l, e).width
-}
-
-/// The width of variable `v`.
-pub(crate) fn variable_width(file: &[u8], l: Layout, v: u32) -> u8
-    ensures { result ≡ var_wide file.now l v }
-{
-    variable_at(file, l, v).width
-}
+use vectors::Pairing;
 
 // The width of two parts joined.
 fn paired_width(by: Pairing, width: u8) -> u8
     ensures { result ≡ of_op (op_of by) width }
 {
     match by {
-        Pairing::Equals => 1,
-        Pairing::Less => 1,
-        _ => width,
+        Pairing::Equals | Pairing::Less => 1,
+        Pairing::And | Pairing::Or | Pairing::Xor | Pairing::Sum | Pairing::Difference => width,
     }
 }
 
-fn is_command_misfit(file: &[u8], l: Layout, x: Command) -> bool
-    ensures { result ≡ command_misfit file.now l x }
+fn is_command_misfit(file: &DesignFile<'_>, x: Command) -> bool
+    ensures { result ≡ command_misfit file.now x }
 {
     match x.step {
-        Step::Choose => width_at(file, l, x.a) != 1,
-        Step::Assign => width_at(file, l, x.b) != variable_width(file, l, x.a),
-        _ => false,
+        Some(Step::Choose) => file.expression(x.a).width != 1,
+        Some(Step::Assign) => file.expression(x.b).width != file.variable(x.a).width,
+        Some(Step::Idle | Step::Both) | None => false,
     }
 }
 
-fn is_expression_misfit(file: &[u8], l: Layout, x: Expression) -> bool
-    ensures { result ≡ expr_misfit file.now l x }
+fn is_expression_misfit(file: &DesignFile<'_>, x: Expression) -> bool
+    ensures { result ≡ expr_misfit file.now x }
 {
-    let a = width_at(file, l, x.a);
-    let b = width_at(file, l, x.b);
+    let a = file.expression(x.a).width;
+    let b = file.expression(x.b).width;
     match x.operation {
-        Operation::Constant => false,
-        Operation::Variable => x.width != variable_width(file, l, x.a),
-        Operation::Not => a != x.width,
-        Operation::Pair(by) => a != b || x.width != paired_width(by, a),
-        Operation::ShiftLeft => a != x.width,
-        Operation::ShiftRight => a != x.width,
-        Operation::Part => (a as u64) < x.b as u64 + x.width as u64,
-        Operation::Above => x.width as u32 != a as u32 + b as u32,
-        Operation::Choose => a != 1 || b != x.width || width_at(file, l, x.c) != x.width,
-        Operation::Unknown => false,
+        Some(Operation::Constant) | None => false,
+        Some(Operation::Variable) => x.width != file.variable(x.a).width,
+        Some(Operation::Not | Operation::ShiftLeft | Operation::ShiftRight) => a != x.width,
+        Some(Operation::Pair(by)) => a != b || x.width != paired_width(by, a),
+        Some(Operation::Part) => u64::from(a) < u64::from(x.b) + u64::from(x.width),
+        Some(Operation::Above) => u32::from(x.width) != u32::from(a) + u32::from(b),
+        Some(Operation::Choose) => {
+            a != 1 || b != x.width || file.expression(x.c).width != x.width
+        }
     }
 }
 
-pub(crate) fn is_misfit(file: &[u8], l: Layout, section: Section, n: u32) -> bool
-    ensures { result ≡ misfits file.now l section n }
+pub(crate) fn is_misfit(file: &DesignFile<'_>, section: Section, n: u32) -> bool
+    ensures { result ≡ misfits file.now section n }
 {
     match section {
-        Section::Commands => is_command_misfit(file, l, command_at(file, l, n)),
-        Section::Expressions => is_expression_misfit(file, l, expression_at(file, l, n)),
-        _ => false,
+        Section::Tables | Section::Variables | Section::Blocks => false,
+        Section::Commands => is_command_misfit(file, file.command(n)),
+        Section::Expressions => is_expression_misfit(file, file.expression(n)),
     }
 }

@@ -1,9 +1,9 @@
 -- What commands and expressions have in them, and blocks one after the other.
-use Rattle.std.specs.Prelude.{ℕ, zero, suc, Bool, false, ◌&&◌, ◌||◌, List, ◌==◌}
+use Rattle.std.specs.Prelude.{ℕ, zero, suc, Bool, false, ◌&&◌, ◌||◌, ◌==◌}
 use Rattle.language.specs.Syntax.{Expr, Cmd, constant, variable, complement, binary, shift_left, shift_right, part, above, choose, idle, seq, choice, assign}
 use Rattle.language.specs.Form.{assigns}
-use Rattle.records.specs.declared.layout.Layout.{Layout}
 use Rattle.records.specs.Trees.{body_at}
+use Rattle.records.specs.Layouts.{File}
 
 -- does record k of an expression read a variable of which p holds?
 abbrev pub reads : (ℕ → Bool) → Expr → ℕ → Bool
@@ -39,6 +39,6 @@ twice (choice e a b) v = twice a v || twice b v
 twice (assign u e k) v = false
 
 -- blocks 0 to n - 1, one after the other
-unfoldable pub blocks_to : List ℕ → Layout → ℕ → Cmd
-blocks_to f l zero = idle
-blocks_to f l (suc n) = seq (blocks_to f l n) (body_at f l n)
+unfoldable pub blocks_to : File → ℕ → Cmd
+blocks_to f zero = idle
+blocks_to f (suc n) = seq (blocks_to f n) (body_at f n)

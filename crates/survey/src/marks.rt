@@ -1,124 +1,102 @@
 //! Marks on the records that read too early, and on those that write where they may not.
-ghost use Rattle.std.specs.Prelude.{◌≡◌, ℕ, ◌<◌, ◌≤◌, Bool, true, false, ◌&&◌, List, ◌==◌, slice_index_or};
-ghost use Rattle.refusal.specs.declared.Section.TheVariants.{Variables, Blocks, Commands, Expressions};
-ghost use Rattle.language.specs.Form.{always};
-ghost use Rattle.records.specs.declared.layout.Layout.{Layout};
+ghost use Rattle.std.specs.Prelude.{◌≡◌, ◌<◌, true, nat_eq};
+ghost use Rattle.refusal.specs.declared.Section.TheVariants.{Blocks};
+ghost use Rattle.variables.specs.Variables.{has};
 ghost use Rattle.records.specs.Layouts.{count_in};
 ghost use Rattle.records.specs.Trees.{expr_at, cmd_at, is_settled};
 ghost use Rattle.survey.specs.Sums.{any};
-ghost use Rattle.survey.specs.Walks.{reads, reads_in, writes, twice, blocks_to};
-ghost use Rattle.survey.specs.Sets.{is_wire, is_register, unready, wrong_target, reads_early, writes_wrong, follows_in, Lists, Assigns, Marked, Marks, Surveyed};
+ghost use Rattle.survey.specs.Walks.{reads, reads_in, writes};
+ghost use Rattle.survey.specs.Sets.{is_wire, is_register, unready, wrong_target, reads_early, writes_wrong, Assigns, Marked, Marks};
 
-use crate::reach::{Assigned, assigned_by};
-use crate::sets::{MOST_VARIABLES, VariableSet, both, either, union};
-use records::{Action, BlockKind, Kind, Layout, Node, action_at, block_at, node_at, variable_at};
+use crate::reach::Assigned;
+use records::{Action, BlockKind, DesignFile, Kind, MOST_COMMANDS, MOST_EXPRESSIONS, Node};
 use refusal::Section;
-
-/// What is found of the blocks.
-#[derive(Drop)]
-pub struct Survey {
-    pub(crate) assigned: Assigned,
-    pub(crate) early: [bool; 1024],
-    pub(crate) wrong: [bool; 512],
-}
+use variables::VariableSet;
 
 /// Whether variable `v` is a wire.
-pub fn is_wire(file: &[u8], l: Layout, v: u32) -> bool
-    ensures is { result ≡ is_wire file.now l v }
+pub fn is_wire(file: &DesignFile<'_>, v: u32) -> bool
+    ensures is { result ≡ is_wire file.now v }
     ensures low { result ≡ true → v < 128 }
 {
-    if v >= l.count(Section::Variables) {
-        return false;
-    }
-    match variable_at(file, l, v).kind {
-        Kind::Port => false,
-        Kind::Register => false,
-        _ => true,
-    }
+    v < file.count(Section::Variables)
+        && !matches!(file.variable(v).kind, Some(Kind::Port | Kind::Register))
 }
 
 /// Whether variable `v` is a register.
-pub fn is_register(file: &[u8], l: Layout, v: u32) -> bool
-    ensures { result ≡ is_register file.now l v }
+pub fn is_register(file: &DesignFile<'_>, v: u32) -> bool
+    ensures { result ≡ is_register file.now v }
 {
-    if v >= l.count(Section::Variables) {
-        return false;
-    }
-    match variable_at(file, l, v).kind {
-        Kind::Register => true,
-        _ => false,
-    }
+    v < file.count(Section::Variables) && file.variable(v).kind == Some(Kind::Register)
 }
 
-/// Whether a block is settled.
-pub fn is_settled(kind: BlockKind) -> bool
+/// Whether a block of this kind is settled.
+// Of a kind alone, as this crate promises it; a whole block has `Block::is_settled`.
+pub fn is_settled(kind: Option<BlockKind>) -> bool
     ensures { result ≡ is_settled kind }
 {
-    match kind {
-        BlockKind::Settled => true,
-        _ => false,
-    }
+    kind == Some(BlockKind::Settled)
 }
 
 // Whether `v` is a wire that is not among those known.
-fn is_unready(file: &[u8], l: Layout, known: &VariableSet, v: u32) -> bool
-    ensures { (p : ℕ → Bool) → Lists known.now p → result ≡ unready file.now l p v }
+fn is_unready(file: &DesignFile<'_>, known: &VariableSet, v: u32) -> bool
+    ensures { result ≡ unready file.now (has known.now) v }
 {
-    if is_wire(file, l, v) {
-        return !known[v as usize];
-    }
-    false
+    is_wire(file, v) && !known.contains(v)
 }
 
 // Whether a settled block, or another, may not assign `v`.
-fn is_wrong_target(file: &[u8], l: Layout, settled: bool, v: u32) -> bool
-    ensures { result ≡ wrong_target file.now l settled v }
+fn is_wrong_target(file: &DesignFile<'_>, settled: bool, v: u32) -> bool
+    ensures { result ≡ wrong_target file.now settled v }
 {
     if settled {
-        !is_wire(file, l, v)
+        !is_wire(file, v)
     } else {
-        !is_register(file, l, v)
+        !is_register(file, v)
     }
 }
 
-// Marks record `k`, if told so.
-fn mark(marks: &mut [bool], k: u32, yes: bool)
-    ensures { Marks marks.old marks.new (λ j. (k == j) && yes) }
+// Marks record `k`.
+fn mark(marks: &mut [bool], k: u32)
+    ensures { Marks marks.old marks.new (nat_eq k) }
 {
+    // Written by index, since a proof knows no mark after `get_mut`.
     let i = k as usize;
-    if yes {
-        if i < marks.len() {
-            marks[i] = true;
-        }
+    if i < marks.len() {
+        marks[i] = true;
     }
 }
 
 // Marks the readings of unready wires in expression `e`.
-fn mark_reads(marks: &mut [bool], file: &[u8], l: Layout, e: u32, known: &VariableSet)
-    ensures { (p : ℕ → Bool) → Lists known.now p → Marks marks.old marks.new (reads (unready file.now l p) (expr_at file.now l e)) }
+fn mark_reads(marks: &mut [bool], file: &DesignFile<'_>, e: u32, known: &VariableSet)
+    ensures { Marks marks.old marks.new (reads (unready file.now (has known.now)) (expr_at file.now e)) }
 {
-    match node_at(file, l, e) {
-        Node::Nothing => {}
+    match file.node(e) {
         Node::Constant { .. } => {}
         Node::Variable {
             variable,
             place,
             ..
         } => {
-            let yes = is_unready(file, l, known, variable);
-            mark(marks, place, yes);
+            if is_unready(file, known, variable) {
+                mark(marks, place);
+            }
         }
-        Node::Not { of, .. } => mark_reads(marks, file, l, of, known),
-        Node::Pair { left, right, .. } => {
-            mark_reads(marks, file, l, left, known);
-            mark_reads(marks, file, l, right, known);
+        Node::Not { of, .. }
+        | Node::ShiftLeft { of, .. }
+        | Node::ShiftRight { of, .. }
+        | Node::Part { of, .. } => mark_reads(marks, file, of, known),
+        Node::Pair {
+            left: one,
+            right: two,
+            ..
         }
-        Node::ShiftLeft { of, .. } => mark_reads(marks, file, l, of, known),
-        Node::ShiftRight { of, .. } => mark_reads(marks, file, l, of, known),
-        Node::Part { of, .. } => mark_reads(marks, file, l, of, known),
-        Node::Above { high, low, .. } => {
-            mark_reads(marks, file, l, high, known);
-            mark_reads(marks, file, l, low, known);
+        | Node::Above {
+            high: one,
+            low: two,
+            ..
+        } => {
+            mark_reads(marks, file, one, known);
+            mark_reads(marks, file, two, known);
         }
         Node::Choose {
             condition,
@@ -126,144 +104,76 @@ fn mark_reads(marks: &mut [bool], file: &[u8], l: Layout, e: u32, known: &Variab
             no,
             ..
         } => {
-            mark_reads(marks, file, l, condition, known);
-            mark_reads(marks, file, l, yes, known);
-            mark_reads(marks, file, l, no, known);
+            mark_reads(marks, file, condition, known);
+            mark_reads(marks, file, yes, known);
+            mark_reads(marks, file, no, known);
         }
     }
 }
 
 // Marks the readings of unready wires in command `n`.
-fn mark_early(marks: &mut [bool], file: &[u8], l: Layout, n: u32, known: &VariableSet)
-    ensures { (p : ℕ → Bool) → Lists known.now p → Marks marks.old marks.new (reads_in (unready file.now l p) (cmd_at file.now l n)) }
+fn mark_early(marks: &mut [bool], file: &DesignFile<'_>, n: u32, known: &VariableSet)
+    ensures { Marks marks.old marks.new (reads_in (unready file.now (has known.now)) (cmd_at file.now n)) }
 {
-    match action_at(file, l, n) {
+    match file.action(n) {
         Action::Idle => {}
         Action::Both { first, second } => {
-            mark_early(marks, file, l, first, known);
-            mark_early(marks, file, l, second, known);
+            mark_early(marks, file, first, known);
+            mark_early(marks, file, second, known);
         }
         Action::Choose { condition, yes, no } => {
-            mark_reads(marks, file, l, condition, known);
-            mark_early(marks, file, l, yes, known);
-            mark_early(marks, file, l, no, known);
+            mark_reads(marks, file, condition, known);
+            mark_early(marks, file, yes, known);
+            mark_early(marks, file, no, known);
         }
-        Action::Assign { value, .. } => mark_reads(marks, file, l, value, known),
+        Action::Assign { value, .. } => mark_reads(marks, file, value, known),
     }
 }
 
 // Marks the assignments in command `n` of what a settled block, or another, may not assign.
-fn mark_wrong(marks: &mut [bool], file: &[u8], l: Layout, n: u32, settled: bool)
-    ensures { Marks marks.old marks.new (writes (wrong_target file.now l settled) (cmd_at file.now l n)) }
+// A walk that `mark_early` shared would take a closure for each of the two arms that differ.
+fn mark_wrong(marks: &mut [bool], file: &DesignFile<'_>, n: u32, settled: bool)
+    ensures { Marks marks.old marks.new (writes (wrong_target file.now settled) (cmd_at file.now n)) }
 {
-    match action_at(file, l, n) {
+    match file.action(n) {
         Action::Idle => {}
         Action::Both { first, second } => {
-            mark_wrong(marks, file, l, first, settled);
-            mark_wrong(marks, file, l, second, settled);
+            mark_wrong(marks, file, first, settled);
+            mark_wrong(marks, file, second, settled);
         }
         Action::Choose { yes, no, .. } => {
-            mark_wrong(marks, file, l, yes, settled);
-            mark_wrong(marks, file, l, no, settled);
+            mark_wrong(marks, file, yes, settled);
+            mark_wrong(marks, file, no, settled);
         }
         Action::Assign { target, place, .. } => {
-            let yes = is_wrong_target(file, l, settled, target);
-            mark(marks, place, yes);
-        }
-    }
-}
-
-// The expressions that read a wire too early.
-fn early_in(file: &[u8], l: Layout, assigned: &Assigned) -> [bool; 1024]
-    requires { Assigns file.now l (count_in l Blocks) assigned.now.all assigned.now.each }
-    ensures { Marked result (λ e. any (reads_early file.now l e) (count_in l Blocks)) }
-{
-    let mut marks = [false; 1024];
-    let mut known = [false; MOST_VARIABLES];
-    for b in 0..l.count(Section::Blocks) {
-        mark_early(&mut marks, file, l, block_at(file, l, b).top, &known);
-        known = union(&known, &assigned.each[b as usize]);
-    }
-    marks
-}
-
-// The commands that assign what their block may not assign.
-fn wrong_in(file: &[u8], l: Layout) -> [bool; 512]
-    ensures { Marked result (λ n. any (writes_wrong file.now l n) (count_in l Blocks)) }
-{
-    let mut marks = [false; 512];
-    for b in 0..l.count(Section::Blocks) {
-        let block = block_at(file, l, b);
-        mark_wrong(&mut marks, file, l, block.top, is_settled(block.kind));
-    }
-    marks
-}
-
-/// Walks all blocks.
-pub fn survey_of(file: &[u8], l: Layout) -> Survey
-    ensures { Surveyed file.now l result }
-{
-    let assigned = assigned_by(file, l);
-    let early = early_in(file, l, &assigned);
-    let wrong = wrong_in(file, l);
-    Survey {
-        assigned,
-        early,
-        wrong,
-    }
-}
-
-fn has(marks: &[bool], k: u32) -> bool
-    ensures { result ≡ slice_index_or marks.now k false }
-{
-    let i = k as usize;
-    if i < marks.len() { marks[i] } else { false }
-}
-
-impl Survey {
-    /// Whether some block reads a wire too early by expression `e`.
-    pub fn reads_early(&self, e: u32) -> bool
-        ensures { (f : List ℕ) (l : Layout) → Surveyed f l self.now → e < count_in l Expressions → result ≡ any (reads_early f l e) (count_in l Blocks) }
-    {
-        has(&self.early, e)
-    }
-
-    /// Whether some block assigns what it may not by command `n`.
-    pub fn writes_wrong(&self, n: u32) -> bool
-        ensures { (f : List ℕ) (l : Layout) → Surveyed f l self.now → n < count_in l Commands → result ≡ any (writes_wrong f l n) (count_in l Blocks) }
-    {
-        has(&self.wrong, n)
-    }
-
-    /// Whether the blocks have two assignments of `v` that do not stand in opposite branches.
-    pub fn assigns_twice(&self, v: u32) -> bool
-        ensures { (f : List ℕ) (l : Layout) → Surveyed f l self.now → v < count_in l Variables → result ≡ twice (blocks_to f l (count_in l Blocks)) v }
-    {
-        has(&self.assigned.all.twice, v)
-    }
-
-    /// Whether the blocks assign `v` on every path.
-    pub fn assigns_always(&self, v: u32) -> bool
-        ensures { (f : List ℕ) (l : Layout) → Surveyed f l self.now → v < count_in l Variables → result ≡ always (blocks_to f l (count_in l Blocks)) v }
-    {
-        has(&self.assigned.all.always, v)
-    }
-
-    /// Whether a block that assigns `v` comes after one that assigns `s`.
-    pub fn comes_after(&self, blocks: u32, v: u32, s: u32) -> bool
-        ensures { (f : List ℕ) (l : Layout) → Surveyed f l self.now → v < count_in l Variables → s < count_in l Variables → blocks ≡ count_in l Blocks → result ≡ any (follows_in f l v s) (count_in l Blocks) }
-    {
-        if blocks as usize > self.assigned.each.len() {
-            return false;
-        }
-        let mut seen = false;
-        for b in 0..blocks {
-            let here = &self.assigned.each[b as usize];
-            if both(has(here, v), seen) {
-                return true;
+            if is_wrong_target(file, settled, target) {
+                mark(marks, place);
             }
-            seen = either(seen, has(here, s));
         }
-        false
     }
+}
+
+/// The expressions that read a wire too early.
+pub(crate) fn early_in(file: &DesignFile<'_>, assigned: &Assigned) -> [bool; MOST_EXPRESSIONS]
+    requires { Assigns file.now (count_in file.now Blocks) assigned.now.all assigned.now.each }
+    ensures { Marked result (λ e. any (reads_early file.now e) (count_in file.now Blocks)) }
+{
+    let mut marks = [false; MOST_EXPRESSIONS];
+    for b in 0..file.count(Section::Blocks) {
+        let known = &assigned.each[b as usize].before;
+        mark_early(&mut marks, file, file.block(b).top, known);
+    }
+    marks
+}
+
+/// The commands that assign what their block may not assign.
+pub(crate) fn wrong_in(file: &DesignFile<'_>) -> [bool; MOST_COMMANDS]
+    ensures { Marked result (λ n. any (writes_wrong file.now n) (count_in file.now Blocks)) }
+{
+    let mut marks = [false; MOST_COMMANDS];
+    for b in 0..file.count(Section::Blocks) {
+        let block = file.block(b);
+        mark_wrong(&mut marks, file, block.top, is_settled(block.kind));
+    }
+    marks
 }

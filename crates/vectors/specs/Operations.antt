@@ -1,9 +1,9 @@
--- Which operation of the language each operation of the code is.
+-- Which operation of the language each pairing of the code is.
 use Rattle.language.specs.Syntax.{Op, and, or, xor, sum, difference, equals, less}
-use Rattle.vectors.specs.declared.Operation.{Operation}
-use Rattle.vectors.specs.declared.Operation.TheVariants.{And, Or, Xor, Sum, Difference, Equals, Less}
+use Rattle.vectors.specs.declared.Pairing.{Pairing}
+use Rattle.vectors.specs.declared.Pairing.TheVariants.{And, Or, Xor, Sum, Difference, Equals, Less}
 
-abbrev pub op_of : Operation → Op
+abbrev pub op_of : Pairing → Op
 op_of And = and
 op_of Or = or
 op_of Xor = xor

@@ -7,7 +7,7 @@ ghost use Rattle.language.specs.Vectors.{bit, complemented, operated, shifted_le
 ghost use Rattle.vectors.specs.Operations.{op_of};
 
 /// How many bits a vector has: 1 to 32.
-#[derive(Clone, Copy)]
+#[derive(Clone, Copy, Debug, PartialEq, Eq)]
 pub struct Width {
     bits: u32,
     ghost some: { 1 ≤ bits },
@@ -15,16 +15,14 @@ pub struct Width {
 }
 
 impl Width {
-    const MOST_BITS: u32 = 32;
-
     /// The width of `bits` bits, if a vector may have so many.
     pub fn new(bits: u32) -> Option<Width>
         ensures { MatchOption result ((1 ≤ bits) × (bits ≤ 32) → ⊥) (λ w. (1 ≤ bits) × (bits ≤ 32) × (w.bits ≡ bits)) }
     {
-        if bits < 1 || bits > Self::MOST_BITS {
-            return None;
+        match bits {
+            1..=u32::BITS => Some(Width { bits }),
+            _ => None,
         }
-        Some(Width { bits })
     }
 
     /// How many bits.
@@ -38,7 +36,7 @@ impl Width {
     pub fn holds(self, value: u32) -> bool
         ensures { result ≡ nat_lt value (2 ^ self.bits) }
     {
-        (value as u64) < self.power()
+        fits(value, self.bits)
     }
 
     // 2 to the power of the width.
@@ -56,9 +54,9 @@ impl Width {
     }
 }
 
-/// The operations on two vectors.
-#[derive(Clone, Copy)]
-pub enum Operation {
+/// What two vectors are joined by.
+#[derive(Clone, Copy, Debug, PartialEq, Eq)]
+pub enum Pairing {
     And,
     Or,
     Xor,
@@ -72,7 +70,7 @@ pub enum Operation {
 pub fn complement(width: Width, x: u32) -> u32
     ensures { result ≡ complemented width.bits x }
 {
-    (width.power() - 1).saturating_sub(x as u64) as u32
+    (width.power() - 1).saturating_sub(u64::from(x)) as u32
 }
 
 /// The bits that `x` and `y` both have.
@@ -100,76 +98,81 @@ pub fn exclusive_or(x: u32, y: u32) -> u32
 pub fn sum(width: Width, x: u32, y: u32) -> u32
     ensures { result ≡ operated width.bits sum x y }
 {
-    width.keep(x as u64 + y as u64)
+    width.keep(u64::from(x) + u64::from(y))
 }
 
 /// The lowest bits of `x` plus 2 to the power of the width less `y`, or 0 where `y` is more than both.
 pub fn difference(width: Width, x: u32, y: u32) -> u32
     ensures { result ≡ operated width.bits difference x y }
 {
-    let above = x as u64 + width.power();
-    width.keep(above.saturating_sub(y as u64))
+    let above = u64::from(x) + width.power();
+    width.keep(above.saturating_sub(u64::from(y)))
 }
 
 /// 1 where `x` is `y`, otherwise 0.
 pub fn equals(x: u32, y: u32) -> u32
     ensures { result ≡ bit (x == y) }
 {
-    if x == y { 1 } else { 0 }
+    u32::from(x == y)
 }
 
 /// 1 where `x` is less than `y`, otherwise 0.
 pub fn less(x: u32, y: u32) -> u32
     ensures { result ≡ bit (nat_lt x y) }
 {
-    if x < y { 1 } else { 0 }
+    u32::from(x < y)
 }
 
-/// The operation at `x` and `y`.
-pub fn operate(width: Width, operation: Operation, x: u32, y: u32) -> u32
-    ensures { result ≡ operated width.bits (op_of operation) x y }
+/// `x` and `y` joined.
+pub fn operate(width: Width, pairing: Pairing, x: u32, y: u32) -> u32
+    ensures { result ≡ operated width.bits (op_of pairing) x y }
 {
-    match operation {
-        Operation::And => and(x, y),
-        Operation::Or => or(x, y),
-        Operation::Xor => exclusive_or(x, y),
-        Operation::Sum => sum(width, x, y),
-        Operation::Difference => difference(width, x, y),
-        Operation::Equals => equals(x, y),
-        Operation::Less => less(x, y),
+    match pairing {
+        Pairing::And => and(x, y),
+        Pairing::Or => or(x, y),
+        Pairing::Xor => exclusive_or(x, y),
+        Pairing::Sum => sum(width, x, y),
+        Pairing::Difference => difference(width, x, y),
+        Pairing::Equals => equals(x, y),
+        Pairing::Less => less(x, y),
     }
 }
 
 /// The lowest bits of `x` shifted to the left by `by`.
+#[tactic(auto, using(crate::proofs::Shifts::left_past, crate::proofs::Shifts::left_kept))]
 pub fn shift_left(width: Width, x: u32, by: u32) -> u32
     ensures { result ≡ shifted_left width.bits x by }
 {
-    if by < u32::BITS {
-        width.keep((x as u64) << by)
-    } else {
-        0
-    }
+    width.keep(u64::from(x).checked_shl(by).unwrap_or(0))
 }
 
 /// `x` shifted to the right by `by`.
+#[tactic(auto, using(crate::proofs::Shifts::right_past))]
 pub fn shift_right(x: u32, by: u32) -> u32
     ensures { result ≡ shifted_right x by }
 {
-    if by < u32::BITS { x >> by } else { 0 }
+    x.checked_shr(by).unwrap_or(0)
+}
+
+/// Whether `x` has no bit past `width`, which may be any number.
+pub fn fits(x: u32, width: u32) -> bool
+    ensures { result ≡ nat_lt x (2 ^ width) }
+{
+    shift_right(x, width) == 0
 }
 
 /// The bits of `x` from bit `from` up, as many as the width says.
 pub fn part_from(width: Width, from: u32, x: u32) -> u32
     ensures { result ≡ part_from width.bits from x }
 {
-    width.keep(shift_right(x, from) as u64)
+    width.keep(u64::from(shift_right(x, from)))
 }
 
 /// The lowest bits of `x` above `y`, which is as wide as `lower` says.
 pub fn join_above(width: Width, lower: Width, x: u32, y: u32) -> u32
     ensures { result ≡ joined_above width.bits lower.bits x y }
 {
-    width.keep(x as u64 * lower.power() + y as u64)
+    width.keep(u64::from(x) * lower.power() + u64::from(y))
 }
 
 /// `x` where `condition` is 1, otherwise `y`.

@@ -1,5 +1,5 @@
 use crate::{
-    Operation, Width, choose, complement, join_above, operate, part_from, shift_left, shift_right,
+    Pairing, Width, choose, complement, join_above, operate, part_from, shift_left, shift_right,
 };
 use std::test::Fail;
 
@@ -19,11 +19,11 @@ fn widths(rt: HostRuntime) -> Result<(), Fail> {
 #[test]
 fn sums_and_differences(rt: HostRuntime) -> Result<(), Fail> {
     let byte = wide(8)?;
-    assert!(rt; operate(byte, Operation::Sum, 200, 100) == 44);
-    assert!(rt; operate(byte, Operation::Difference, 3, 5) == 254);
-    assert!(rt; operate(wide(1)?, Operation::Sum, 1, 1) == 0);
-    assert!(rt; operate(wide(31)?, Operation::Difference, 0, 1) == 2_147_483_647);
-    assert!(rt; operate(wide(32)?, Operation::Difference, 0, 1) == 4_294_967_295);
+    assert!(rt; operate(byte, Pairing::Sum, 200, 100) == 44);
+    assert!(rt; operate(byte, Pairing::Difference, 3, 5) == 254);
+    assert!(rt; operate(wide(1)?, Pairing::Sum, 1, 1) == 0);
+    assert!(rt; operate(wide(31)?, Pairing::Difference, 0, 1) == 2_147_483_647);
+    assert!(rt; operate(wide(32)?, Pairing::Difference, 0, 1) == 4_294_967_295);
     Ok(())
 }
 
@@ -31,11 +31,11 @@ fn sums_and_differences(rt: HostRuntime) -> Result<(), Fail> {
 fn bits_and_comparisons(rt: HostRuntime) -> Result<(), Fail> {
     let byte = wide(8)?;
     assert!(rt; complement(byte, 15) == 240);
-    assert!(rt; operate(byte, Operation::And, 12, 10) == 8);
-    assert!(rt; operate(byte, Operation::Or, 12, 10) == 14);
-    assert!(rt; operate(byte, Operation::Xor, 12, 10) == 6);
-    assert!(rt; operate(byte, Operation::Equals, 12, 10) == 0);
-    assert!(rt; operate(byte, Operation::Less, 10, 12) == 1);
+    assert!(rt; operate(byte, Pairing::And, 12, 10) == 8);
+    assert!(rt; operate(byte, Pairing::Or, 12, 10) == 14);
+    assert!(rt; operate(byte, Pairing::Xor, 12, 10) == 6);
+    assert!(rt; operate(byte, Pairing::Equals, 12, 10) == 0);
+    assert!(rt; operate(byte, Pairing::Less, 10, 12) == 1);
     Ok(())
 }
 
@@ -53,7 +53,7 @@ fn shifts_and_parts(rt: HostRuntime) -> Result<(), Fail> {
 #[test]
 fn past_the_width(rt: HostRuntime) -> Result<(), Fail> {
     let byte = wide(8)?;
-    assert!(rt; complement(byte, 256) == 0 && operate(byte, Operation::Difference, 0, 300) == 0);
+    assert!(rt; complement(byte, 256) == 0 && operate(byte, Pairing::Difference, 0, 300) == 0);
     assert!(rt; shift_left(byte, 1, 8) == 0 && shift_left(byte, 1, 4_294_967_295) == 0);
     assert!(rt; shift_right(4_294_967_295, 32) == 0 && part_from(byte, 32, 4_294_967_295) == 0);
     assert!(rt; join_above(wide(32)?, wide(16)?, 1, 65_536) == 131_072);

@@ -1,9 +1,11 @@
-use Rattle.std.proofs.Common.{◌≡◌, ℕ, true, arith, below_more}
+use Rattle.std.proofs.Common.{◌≡◌, ℕ, rules, tests}
+use Rattle.lattice.specs.Meaning.{Below}
+use Rattle.lattice.proofs.Ranges.{all_below}
 use Rattle.clearance.proofs.relation.is_antisymmetric.Goals as goal
 
-pub loop-a-preserved : goal.loop-a-preserved
-loop-a-preserved g c j k h =
+pub returns : goal.returns
+returns g c =
     let m = g.R.Relation.relation c.args.r.now in
-    let P : ℕ → Type 0 = λ j. m.below j k ≡ true → m.below k j ≡ true → j ≡ k in
-    below_more P c.loop-a.a (λ i l. c.loop-a.invariant i k l)
-    (λ p q. c.loop-b.invariant k (omega (arith, g.R.Relation.levels c.args.r.now _ _ p)) p q) j h
+    let P : ℕ → Type 0 = λ a. (b : ℕ) → Below m a b → Below m b a → a ≡ b in
+    let below = rw c.size.ensures at (all_below _ _ _ _ P c.all.ensures.ran (λ x q k. search (rules, tests)) (λ x q k. search (rules, tests))) in
+    (λ e a b h k. below.0 e a (g.R.Relation.levels c.args.r.now _ _ h).0 b h k, λ all. below.1 (λ a l. all a))

@@ -1,7 +1,7 @@
-use Rattle.std.proofs.Common.{◌≡◌, ℕ, ◌*◌, ◌<◌, ◌≤◌, ◌≢◌, length, get_or, take, set, ap, ◌∙◌, arith, length-set, get_or-set_other, get_or-set_same, below_more}
+use Rattle.std.proofs.Common.{◌≡◌, ℕ, ◌*◌, ◌<◌, ◌≤◌, ◌≢◌, length, get_or, take, set, ◌∙◌, arith, length-set, get_or-set_other, get_or-set_same, below_more, rules}
 use Rattle.std.proofs.lemmas.List.FromFn.{fill_by_all}
 use Rattle.std.proofs.lemmas.List.{get_or-take, length-take-le}
-use Rattle.clearance.specs.Text.{cell, digit}
+use Rattle.clearance.specs.Text.{cell}
 use Rattle.clearance.specs.Squares.{square}
 use Rattle.clearance.proofs.text.cells_of.Goals as goal
 
@@ -16,7 +16,7 @@ loop-k-preserved c =
     let P : ℕ → Type 0 = λ j. get_or (set all k x) j 0 ≡ cell c.args.n c.args.text.now j in
     let here : k < length all = omega (arith, bounds-all-k c) in (
       simp length-set c.loop-k.invariant.0,
-      below_more P k (λ j h. let ne : j ≢ k = omega arith in rw get_or-set_other (c.loop-k.invariant.1 j h)) (rw get_or-set_same (c.digit_of.ensures ∙ ap digit c.byte_at.ensures)),
+      below_more P k (λ j h. let ne : j ≢ k = omega arith in rw get_or-set_other (c.loop-k.invariant.1 j h)) (rw get_or-set_same (search rules)),
     )
 
 pub returns : goal.returns

@@ -7,5 +7,5 @@ use Rattle.judgement.proofs.flowing.check_flows.Given as goal
 
 abbrev pub invariant-loop-b : goal.invariant-loop-b
 invariant-loop-b g l =
-    Levelled (g.L.Lattice.meaning l.lattice) (design_of l.file l.l)
-    → (b : ℕ) → b < l.b → Each Anything (Test13 (g.L.Lattice.meaning l.lattice) (design_of l.file l.l)) [] (body_at l.file l.l b)
+    Levelled (g.L.Lattice.meaning l.tester.lattice.now) (design_of l.tester.file.now)
+    → (b : ℕ) → b < l.b → Each Anything (Test13 (g.L.Lattice.meaning l.tester.lattice.now) (design_of l.tester.file.now)) [] (body_at l.tester.file.now b)

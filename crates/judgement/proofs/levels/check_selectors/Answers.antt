@@ -1,9 +1,13 @@
-use Rattle.std.proofs.Common.{arith}
+use Rattle.std.proofs.Common.{rules, arith}
+use Rattle.std.proofs.lemmas.Result.{MatchResult-weaker}
 use Rattle.records.specs.Trees.{design_of}
 use Rattle.judgement.proofs.Bounds.{tests_from}
 use Rattle.judgement.proofs.levels.check_selectors.Goals as goal
 
 pub returns : goal.returns
 returns g c =
-    tests_from (g.L.Lattice.meaning c.args.lattice.now) (design_of c.args.file.now c.args.l)
-    (λ v h. c.loop-v.invariant v (omega (arith, h, c.variable_count-count.ensures.is)))
+    let m = g.L.Lattice.meaning c.args.tester.now.lattice.now in
+    let d = design_of c.args.tester.now.file.now in
+    MatchResult-weaker c.refuse_unfine.result c.refuse_unfine.ensures
+    (λ _ fine. tests_from m d (λ v h. let p = fine v (omega (arith, h, c.variable_count.ensures.is)) in search rules))
+    (λ e x. record { at = x.0; is = search rules; found = record { here = λ h. let p = x.2 in search rules; lower = λ k h. let p = x.4 k h in search rules } })

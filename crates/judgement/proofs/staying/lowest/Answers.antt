@@ -7,13 +7,12 @@ use Rattle.judgement.proofs.staying.lowest.Goals as goal
 
 pub loop-b-preserved : goal.loop-b-preserved
 loop-b-preserved g c =
-    let m = g.L.Lattice.meaning c.args.lattice.now in
-    let f = c.args.file.now in
-    let l = c.args.l in
-    subst (StayedTo m f l (c.loop-b.b + 1)) (sym c.lower-found.ensures)
-    (stayed_more m f l c.loop-b.b c.loop-b.found c.lowest_in_block.result c.loop-b.invariant c.lowest_in_block.ensures)
+    let m = g.L.Lattice.meaning c.args.tester.now.lattice.now in
+    let f = c.args.tester.now.file.now in
+    subst (StayedTo m f (c.loop-b.b + 1)) (sym c.lower-found.ensures)
+    (stayed_more m f c.loop-b.b c.loop-b.found c.lowest_in_block.result c.loop-b.invariant c.lowest_in_block.ensures)
 
 pub returns : goal.returns
 returns g c =
-    let is : c.loop-b.b ≡ count_in c.args.l Blocks = omega (arith, c.count-b-end.ensures.is) in
-    stayed_whole (g.L.Lattice.meaning c.args.lattice.now) c.args.file.now c.args.l c.loop-b.b c.loop-b.found is c.loop-b.invariant
+    let is : c.loop-b.b ≡ count_in c.args.tester.now.file.now Blocks = omega (arith, c.count-b-end.ensures.is) in
+    stayed_whole (g.L.Lattice.meaning c.args.tester.now.lattice.now) c.args.tester.now.file.now c.loop-b.b c.loop-b.found is c.loop-b.invariant

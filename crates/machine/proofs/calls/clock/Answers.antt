@@ -5,4 +5,4 @@ use Rattle.machine.proofs.calls.clock.Goals as goal
 
 pub returns : goal.returns
 returns c =
-    clock_is (design_of c.args.file.now c.args.l) c.args.held.now c.settled-before.result c.clocked-next.result c.clear.result (low_clocked c.args.file.now c.args.l) c.settled-before.ensures c.clocked-next.ensures c.clear.ensures
+    clock_is (design_of c.args.file.now) c.args.held.now c.settled-values.result c.clocked-next.result c.clear.result (low_clocked c.args.file.now) c.settled-values.ensures c.clocked-next.ensures c.clear.ensures

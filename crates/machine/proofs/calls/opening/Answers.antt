@@ -1,12 +1,9 @@
-use Rattle.std.proofs.Common.{sym, ◌∙◌, ⊎_elim, arith}
-use Rattle.std.proofs.lemmas.Bool.{cases_lt}
-use Rattle.machine.proofs.Values.{past}
-use Rattle.machine.proofs.Described.{opening_past}
+use Rattle.std.proofs.Common.{rules}
+use Rattle.language.specs.Machine.{opening}
+use Rattle.records.specs.Trees.{design_of}
+use Rattle.variables.proofs.Laws.{value_all}
+use Rattle.machine.proofs.Steps.{opening_past}
 use Rattle.machine.proofs.calls.opening.Goals as goal
 
 pub returns : goal.returns
-returns c = λ v.
-    ⊎_elim
-    (λ lt. c.loop-v.invariant v (omega arith))
-    (λ ge. past c.loop-v.held v ge ∙ sym (opening_past c.args.file.now c.args.l v ge))
-    (cases_lt v 128)
+returns c = value_all c.from_fn.result (opening (design_of c.args.file.now)) (opening_past c.args.file.now) (λ v lt. search (rules, c.from_fn.ensures v lt))

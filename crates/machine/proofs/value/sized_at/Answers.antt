@@ -1,9 +1,7 @@
-use Rattle.machine.proofs.Widths.{sized}
+use Rattle.std.proofs.Common.{subst}
+use Rattle.machine.specs.Widths.{Sized}
+use Rattle.machine.proofs.Widths.{sized_expr}
 use Rattle.machine.proofs.value.sized_at.Goals as goal
 
-pub returns : goal.returns
-returns c = record {
-  lower = c.node_at.ensures.lower;
-  tree = c.node_at.ensures.tree;
-  sized = sized c.args.file.now c.args.l c.args.e c.node_at.result c.node_at.ensures.tree;
-}
+pub returns-clause-sized : goal.returns-clause-sized
+returns-clause-sized c = subst Sized c.node.ensures.tree (sized_expr c.args.file.now c.args.e)

@@ -6,9 +6,9 @@ use Rattle.clearance.proofs.table.Table.greatest.Goals as goal
 pub bounds-self-a : goal.bounds-self-a
 bounds-self-a c =
     let s = c.args.self.now in
-    omega (arith, square s.n s.most, cell_below s.n c.args.a c.args.b c.requires.0 c.requires.1)
+    omega (arith, square s.n s.most, cell_below s.n c.args.a c.args.b c.requires.a_level c.requires.b_level)
 
 pub returns : goal.returns
 returns c =
     let s = c.args.self.now in
-    table_meet s.n _ s.joins s.meets s.some s.most s.sound c.args.a c.args.b c.requires.0 c.requires.1
+    rw c.from.ensures (table_meet s.n _ s.joins s.meets s.some s.most s.sound c.args.a c.args.b c.requires.a_level c.requires.b_level)

@@ -1,0 +1,11 @@
+use Rattle.std.proofs.Common.{ℕ, rules, tests}
+use Rattle.lattice.specs.Meaning.{Below}
+use Rattle.lattice.proofs.Ranges.{all_below}
+use Rattle.clearance.proofs.relation.is_closed.Goals as goal
+
+pub returns : goal.returns
+returns g c =
+    let m = g.R.Relation.relation c.args.r.now in
+    let P : ℕ → Type 0 = λ b. (t : ℕ) → Below m c.args.a b → Below m b t → Below m c.args.a t in
+    let below = rw c.size.ensures at (all_below _ _ _ _ P c.all.ensures.ran (λ x q k. search (rules, tests)) (λ x q k. search (rules, tests))) in
+    (λ e b t h k. below.0 e b (g.R.Relation.levels c.args.r.now _ _ h).1 t h k, λ all. below.1 (λ b l t. all b t))

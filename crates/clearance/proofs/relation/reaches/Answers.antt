@@ -1,0 +1,11 @@
+use Rattle.std.proofs.Common.{ℕ, rules, tests}
+use Rattle.lattice.specs.Meaning.{Below}
+use Rattle.lattice.proofs.Ranges.{all_below}
+use Rattle.clearance.proofs.relation.reaches.Goals as goal
+
+pub returns : goal.returns
+returns g c =
+    let m = g.R.Relation.relation c.args.r.now in
+    let P : ℕ → Type 0 = λ x. Below m c.args.b x → Below m c.args.a x in
+    let below = rw c.size.ensures at (all_below _ _ _ _ P c.all.ensures.ran (λ x q k. search (rules, tests)) (λ x q k. search (rules, tests))) in
+    (λ e x h. below.0 e x (g.R.Relation.levels c.args.r.now _ _ h).1 h, λ all. below.1 (λ x l. all x))

@@ -1,4 +1,0 @@
-use Rattle.listing.proofs.expressions.+show.Given as goal
-
-abbrev pub decreases-show : goal.decreases-show
-decreases-show g l = l.n

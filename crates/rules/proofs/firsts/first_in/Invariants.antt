@@ -1,6 +1,0 @@
-use Rattle.std.proofs.Common.{◌≡◌, None}
-use Rattle.rules.specs.First.{first, refused_at}
-use Rattle.rules.proofs.firsts.first_in.Given as goal
-
-abbrev pub invariant-loop-n : goal.invariant-loop-n
-invariant-loop-n l = first (refused_at l.file l.l l.rule l.section) l.n ≡ None
