@@ -14,7 +14,7 @@ use Rattle.variables.specs.declared.sets.VariableSet.{VariableSet}
 use Rattle.variables.specs.Variables.{has}
 use Rattle.survey.specs.declared.reach.Reach.{Reach}
 use Rattle.survey.specs.declared.reach.BlockSets.{BlockSets}
-use Rattle.survey.specs.declared.reach.Assigned.{Assigned}
+use Rattle.survey.specs.declared.survey.Findings.{Findings}
 
 -- ---- kinds of variables
 
@@ -100,7 +100,7 @@ abbrev pub Marks : List Bool → List Bool → (ℕ → Bool) → Type 0
 Marks xs ys p = (t : ℕ → Bool) → Marked xs t → Marked ys (λ k. t k || p k)
 
 -- what a walk of all blocks finds
-pub record Surveyed (f : File) (a : Assigned) (es cs : List Bool) : Type 0 where
-  pub assigned : Assigns f (count_in f Blocks) a.all a.each
-  pub early : Marked es (λ e. any (reads_early f e) (count_in f Blocks))
-  pub wrong : Marked cs (λ n. any (writes_wrong f n) (count_in f Blocks))
+pub record Surveyed (f : File) (s : Findings) : Type 0 where
+  pub assigned : Assigns f (count_in f Blocks) s.assigned.all s.assigned.each
+  pub early : Marked s.early (λ e. any (reads_early f e) (count_in f Blocks))
+  pub wrong : Marked s.wrong (λ n. any (writes_wrong f n) (count_in f Blocks))

@@ -11,6 +11,7 @@ use Rattle.records.specs.Layouts.{File, count_in}
 use Rattle.records.specs.Cells.{block_at, command_at, expression_at}
 use Rattle.survey.specs.Sums.{total, one}
 use Rattle.survey.specs.declared.uses.Tally.{Tally}
+use Rattle.survey.specs.declared.uses.UseCounts.{UseCounts}
 use Rattle.survey.specs.declared.uses.Tally.TheVariants.{Never, Once, Often}
 
 -- a field that names record a uses record n this often
@@ -92,6 +93,6 @@ abbrev pub Adds : List Tally → List Tally → (ℕ → ℕ) → Type 0
 Adds xs ys g = (t : ℕ → ℕ) → Tallies xs t → Tallies ys (λ k. t k + g k)
 
 -- the numbers of commands' and of expressions' uses
-pub record Counts (f : File) (cs es : List Tally) : Type 0 where
-  pub commands : Tallies cs (command_used f)
-  pub expressions : Tallies es (expr_used f)
+pub record Counts (f : File) (u : UseCounts) : Type 0 where
+  pub commands : Tallies u.commands (command_used f)
+  pub expressions : Tallies u.expressions (expr_used f)

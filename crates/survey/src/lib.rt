@@ -8,5 +8,5 @@ mod survey;
 mod uses;
 
 pub use marks::{is_register, is_settled, is_wire};
-pub use survey::Survey;
-pub use uses::Uses;
+pub use survey::{Findings, Survey, survey_of};
+pub use uses::{UseCounts, Uses, uses_of};

@@ -3,7 +3,7 @@
 ghost use Rattle.std.specs.Prelude.{◌≡◌, ℕ, ◌+◌, ◌<◌, min, List, ◌==◌, slice_index_or};
 ghost use Rattle.std.specs.Borrow.{MutBor};
 ghost use Rattle.refusal.specs.declared.Section.TheVariants.{Blocks, Commands, Expressions};
-ghost use Rattle.records.specs.Layouts.{count_in};
+ghost use Rattle.records.specs.Layouts.{File, count_in};
 ghost use Rattle.survey.specs.Sums.{total};
 ghost use Rattle.survey.specs.declared.uses.Tally.{Tally};
 ghost use Rattle.survey.specs.declared.uses.Tally.TheVariants.{Never};
@@ -31,14 +31,20 @@ impl Tally {
     }
 }
 
+/// How often each record of a file is used, which may outlive the file.
+#[derive(Drop)]
+pub struct UseCounts {
+    commands: [Tally; MOST_COMMANDS],
+    expressions: [Tally; MOST_EXPRESSIONS],
+}
+
 /// How often each record of a file is used.
 #[derive(Drop)]
 pub struct Uses<'a> {
     /// The file whose uses are counted.
     pub file: &'a DesignFile<'a>,
-    commands: [Tally; MOST_COMMANDS],
-    expressions: [Tally; MOST_EXPRESSIONS],
-    ghost counted: { Counts file.now commands expressions },
+    counts: UseCounts,
+    ghost counted: { Counts file.now counts },
 }
 
 // One more use of record `n`.
@@ -123,29 +129,54 @@ fn add_each<F: Fn(&mut [Tally], u32)>(
     }
 }
 
+/// Counts all uses.
+pub fn uses_of(file: &DesignFile<'_>) -> UseCounts
+    ensures { Counts file.now result }
+{
+    let mut commands = [Tally::Never; MOST_COMMANDS];
+    add_each(&mut commands, file, Section::Blocks, |uses, b| {
+        add_use(uses, file.block(b).top);
+    });
+    add_each(&mut commands, file, Section::Commands, |uses, n| {
+        add_parts(uses, file.command(n));
+    });
+    let mut expressions = [Tally::Never; MOST_EXPRESSIONS];
+    add_each(&mut expressions, file, Section::Commands, |uses, n| {
+        add_values(uses, file.command(n));
+    });
+    add_each(&mut expressions, file, Section::Expressions, |uses, e| {
+        add_operands(uses, file.expression(e));
+    });
+    UseCounts {
+        commands,
+        expressions,
+    }
+}
+
+impl UseCounts {
+    /// Whether command `n` is used once.
+    pub fn once_command(&self, n: u32) -> bool
+        ensures { (f : File) → Counts f self.now → n < count_in f Commands → result ≡ (command_used f n == 1) }
+    {
+        is_once(&self.commands, n)
+    }
+
+    /// Whether expression `n` is used once.
+    pub fn once_expression(&self, n: u32) -> bool
+        ensures { (f : File) → Counts f self.now → n < count_in f Expressions → result ≡ (expr_used f n == 1) }
+    {
+        is_once(&self.expressions, n)
+    }
+}
+
 impl<'a> Uses<'a> {
     /// Counts all uses.
     pub fn of(file: &'a DesignFile<'a>) -> Uses<'a>
         ensures { result.file.now ≡ file.now }
     {
-        let mut commands = [Tally::Never; MOST_COMMANDS];
-        add_each(&mut commands, file, Section::Blocks, |uses, b| {
-            add_use(uses, file.block(b).top);
-        });
-        add_each(&mut commands, file, Section::Commands, |uses, n| {
-            add_parts(uses, file.command(n));
-        });
-        let mut expressions = [Tally::Never; MOST_EXPRESSIONS];
-        add_each(&mut expressions, file, Section::Commands, |uses, n| {
-            add_values(uses, file.command(n));
-        });
-        add_each(&mut expressions, file, Section::Expressions, |uses, e| {
-            add_operands(uses, file.expression(e));
-        });
         Uses {
             file,
-            commands,
-            expressions,
+            counts: uses_of(file),
         }
     }
 
@@ -153,13 +184,13 @@ impl<'a> Uses<'a> {
     pub fn once_command(&self, n: u32) -> bool
         ensures { let f = self.now.file.now in n < count_in f Commands → result ≡ (command_used f n == 1) }
     {
-        is_once(&self.commands, n)
+        self.counts.once_command(n)
     }
 
     /// Whether expression `n` is used once.
     pub fn once_expression(&self, n: u32) -> bool
         ensures { let f = self.now.file.now in n < count_in f Expressions → result ≡ (expr_used f n == 1) }
     {
-        is_once(&self.expressions, n)
+        self.counts.once_expression(n)
     }
 }
