@@ -36,7 +36,12 @@ fn level_tried(p: &Trials, x: u32) -> Option<u32>
         (Tries d sets (place_of p.now.origin) x → ⊥)
         (λ l. Tries d sets (place_of p.now.origin) x × (l ≡ level_at d (place_of p.now.origin) x)) }
 {
-    p.levels.get(x as usize).copied().flatten()
+    let i = x as usize;
+    if i < ENTRIES && p.tried[i] {
+        Some(p.levels[i])
+    } else {
+        None
+    }
 }
 
 impl<'a, L: Lattice> Tester<'a, L> {

@@ -1,8 +1,7 @@
 //! The values to try at an origin, and the levels there.
-ghost use Rattle.std.specs.Prelude.{◌≡◌, MatchOption};
-ghost use Rattle.language.specs.Finite.{Tries, level_at};
+ghost use Rattle.std.specs.Prelude.{◌≡◌};
 ghost use Rattle.records.specs.Trees.{design_of};
-ghost use Rattle.paths.specs.Marks.{place_of, sets_of};
+ghost use Rattle.paths.specs.Marks.{sets_of};
 ghost use Rattle.paths.specs.Trying.{Tabled};
 
 use crate::origins::Origin;
@@ -10,22 +9,13 @@ use crate::values::ValueSets;
 use records::{DesignFile, ENTRIES};
 use std::array;
 
-/// An origin, and the level there at each value that is to be tried. Worked out once, so that each value of
-/// one origin can be held against each of another at no cost.
+/// An origin, and for each value that a table has an entry for whether it is to be tried, and the level there.
+/// Worked out once, so that each value of one origin can be held against each of another at no cost.
 #[derive(Clone, Copy)]
 pub struct Trials {
     pub origin: Origin,
-    pub levels: [Option<u32>; ENTRIES],
-}
-
-// The level at this origin where the value is `x`, if `x` is to be tried.
-fn level_tried(file: &DesignFile<'_>, sets: &ValueSets, origin: Origin, x: u32) -> Option<u32>
-    ensures { MatchOption result
-        (Tries (design_of file.now) (sets_of sets.now) (place_of origin) x → ⊥)
-        (λ l. Tries (design_of file.now) (sets_of sets.now) (place_of origin) x × (l ≡ level_at (design_of file.now) (place_of origin) x)) }
-{
-    let level = origin.level_at(file, x);
-    origin.is_tried(file, sets, x).then_some(level)
+    pub tried: [bool; ENTRIES],
+    pub levels: [u32; ENTRIES],
 }
 
 impl Trials {
@@ -36,7 +26,8 @@ impl Trials {
     {
         Trials {
             origin,
-            levels: array::from_fn(|x| level_tried(file, sets, origin, x as u32)),
+            tried: array::from_fn(|x| origin.is_tried(file, sets, x as u32)),
+            levels: array::from_fn(|x| origin.level_at(file, x as u32)),
         }
     }
 }

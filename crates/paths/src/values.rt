@@ -16,7 +16,7 @@ use vectors::fits;
 const WIDEST_SELECTOR: u32 = 4;
 
 /// Which of its values are left to each variable up to 4 wide: as many as a table has entries.
-#[derive(Clone, Copy)]
+#[derive(Clone, Copy, Debug, PartialEq, Eq)]
 pub struct ValueSets {
     marks: [[bool; ENTRIES]; MOST_VARIABLES],
 }
