@@ -18,7 +18,14 @@ fn begins_line(text: &[u8], i: usize) -> bool
 fn line_count(text: &[u8]) -> usize
     ensures { result ≡ line_count text.now }
 {
-    (0..text.len()).filter(|i| begins_line(text, *i)).count()
+    // A `for`: `filter` and `count` took twice the time.
+    let mut lines = 0;
+    for i in 0..text.len() {
+        if begins_line(text, i) {
+            lines += 1;
+        }
+    }
+    lines
 }
 
 // Whether a line may end at a place: past the end of the text it may.
