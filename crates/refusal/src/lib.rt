@@ -41,7 +41,7 @@ pub struct Place {
 }
 
 /// Why a call was refused. docs/REFUSALS.md tells when each is given.
-#[derive(Clone, Copy, Debug, PartialEq, Eq)]
+#[derive(Clone, Copy, PartialEq, Eq)]
 pub enum Refusal {
     // A design file: its layout.
     TooShort,
@@ -196,5 +196,14 @@ impl fmt::Display for Refusal {
         let section = self.section();
         let record = self.record();
         write!(f, "refused {number} {section} {record}")
+    }
+}
+
+// By hand, so that `{:?}` too prints what programs read.
+impl fmt::Debug for Refusal {
+    ghost debug_output = { λ x. Some (line (notice x)) };
+
+    fn fmt<W: fmt::Write>(&self, f: &mut fmt::Formatter<W>) -> fmt::Result {
+        write!(f, "{self}")
     }
 }
