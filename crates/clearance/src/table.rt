@@ -96,8 +96,6 @@ impl Table {
 impl Lattice for Table {
     const SIGN: char = 'T';
 
-    ghost SIGN = { 84 };
-
     ghost meaning = { λ s. table s.n (take (s.n * s.n) s.bytes) };
 
     ghost lawful = { λ s. table_laws s.n (take (s.n * s.n) s.bytes) s.joins s.meets s.some s.most s.sound };

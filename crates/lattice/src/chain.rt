@@ -31,8 +31,6 @@ impl Chain {
 impl Lattice for Chain {
     const SIGN: char = 'C';
 
-    ghost SIGN = { 67 };
-
     ghost meaning = { λ s. chain s.n };
 
     ghost lawful = { λ s. chain_laws s.n s.some s.most };

@@ -12,7 +12,7 @@ mod sets;
 mod several;
 
 pub use chain::Chain;
-pub use letters::signs;
+pub use letters::{Lettered, composed_signs, signs};
 pub use pair::{Pair, pair_count};
 pub use reversed::Reversed;
 pub use sets::Sets;
@@ -36,8 +36,6 @@ pub fn are_levels(count: u32, a: Level, b: Level) -> bool
 pub trait Lattice {
     /// The letter of the kind.
     const SIGN: char;
-
-    ghost SIGN: { ℕ };
 
     ghost meaning: { Self → Meaning };
 

@@ -5,8 +5,11 @@ ghost use Rattle.lattice.specs.Kinds.{pair, product, TwoLevels};
 ghost use Rattle.refusal.specs.Outcome.{MadeIf};
 ghost use Rattle.refusal.specs.declared.Refusal.TheVariants.{OutsideLimits};
 
-use crate::{Lattice, Level, MOST_LEVELS, are_levels};
+use crate::{Lattice, Lettered, Level, MOST_LEVELS, are_levels};
 use refusal::Refusal;
+
+// One letter for both traits, of which only the second can be named in a contract.
+const LETTER: char = 'P';
 
 /// Level `a * q + b` stands for level `a` of the first and `b` of the second, which has `q` levels.
 /// Where that would make more than 65,536 levels, the pair has the one level 0.
@@ -64,9 +67,7 @@ impl<A: Lattice, B: Lattice> Pair<A, B> {
 }
 
 impl<A: Lattice, B: Lattice> Lattice for Pair<A, B> {
-    const SIGN: char = 'P';
-
-    ghost SIGN = { 80 };
+    const SIGN: char = LETTER;
 
     ghost meaning = { λ s. pair (A.Lattice.meaning s.first) (B.Lattice.meaning s.second) };
 
@@ -119,4 +120,10 @@ impl<A: Lattice, B: Lattice> Lattice for Pair<A, B> {
             self.level(self.first.highest(), self.second.highest())
         }
     }
+}
+
+impl<A: Lattice, B: Lattice> Lettered for Pair<A, B> {
+    const LETTER: char = LETTER;
+
+    ghost LETTER = { 80 };
 }

@@ -3,7 +3,10 @@ ghost use Rattle.std.specs.Prelude.{◌≡◌};
 ghost use Rattle.lattice.specs.Reversals.{reversed_laws};
 ghost use Rattle.lattice.specs.Kinds.{reversed};
 
-use crate::{Lattice, Level, are_levels};
+use crate::{Lattice, Lettered, Level, are_levels};
+
+// One letter for both traits, of which only the second can be named in a contract.
+const LETTER: char = 'R';
 
 /// The levels of `of`, with the order turned round.
 #[derive(Clone, Copy, Debug, PartialEq, Eq)]
@@ -12,9 +15,7 @@ pub struct Reversed<A> {
 }
 
 impl<A: Lattice> Lattice for Reversed<A> {
-    const SIGN: char = 'R';
-
-    ghost SIGN = { 82 };
+    const SIGN: char = LETTER;
 
     ghost meaning = { λ s. reversed (A.Lattice.meaning s.of) };
 
@@ -51,4 +52,10 @@ impl<A: Lattice> Lattice for Reversed<A> {
     fn highest(&self) -> Level {
         self.of.lowest()
     }
+}
+
+impl<A: Lattice> Lettered for Reversed<A> {
+    const LETTER: char = LETTER;
+
+    ghost LETTER = { 82 };
 }

@@ -32,8 +32,6 @@ impl Sets {
 impl Lattice for Sets {
     const SIGN: char = 'S';
 
-    ghost SIGN = { 83 };
-
     ghost meaning = { λ s. sets s.owners };
 
     ghost lawful = { λ s. sets_laws s.owners s.most };
