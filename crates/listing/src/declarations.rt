@@ -1,5 +1,6 @@
 //! Tables and variables as text.
-use records::{DesignFile, ENTRIES, Kind, Label};
+use records::{DesignFile, ENTRIES, Kind, Label, field};
+use refusal::Section;
 use std::fmt;
 
 /// A variable's name: the letter of its kind and its number.
@@ -44,13 +45,15 @@ fn word_of(kind: Option<Kind>) -> &'static str {
 pub struct TableText<'a> {
     pub file: &'a DesignFile<'a>,
     pub table: u32,
-    pub entries: usize,
+    pub entries: u32,
 }
 
 impl fmt::Display for TableText<'_> {
     fn fmt<W: fmt::Write>(&self, f: &mut fmt::Formatter<W>) -> fmt::Result {
-        for i in 0..self.entries.min(ENTRIES) {
-            let level = self.file.entry(self.table, i as u32);
+        // The bytes that lie there: `entry` is 0 of a table that the file does not count, which would hide them.
+        let levels = self.file.record(Section::Tables, self.table);
+        for i in 0..self.entries.min(ENTRIES as u32) {
+            let level = field(levels, 4 * i as usize);
             write!(f, " {level}")?;
         }
         Ok(())
@@ -84,8 +87,12 @@ impl fmt::Display for LabelText<'_> {
 }
 
 // How many values a selector of this width has, of those that a table has entries for.
-fn values_of(width: u8) -> usize {
-    if width < 4 { 1 << width } else { ENTRIES }
+fn values_of(width: u8) -> u32 {
+    if width < 4 {
+        1 << width
+    } else {
+        ENTRIES as u32
+    }
 }
 
 /// A variable: its name, kind, width, label and reset value.

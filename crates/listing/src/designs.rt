@@ -27,7 +27,7 @@ fn show_tables<'a, W: fmt::Write>(
         let levels = TableText {
             file,
             table,
-            entries: ENTRIES,
+            entries: ENTRIES as u32,
         };
         writeln!(f, "table {table}:{levels}")?;
     }
