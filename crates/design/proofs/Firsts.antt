@@ -253,7 +253,7 @@ module _ (f : File) where
     formed = formed f q;
   }
 
-  says : Says f (form_refusal f)
+  pub says : Says f (form_refusal f)
   says = by (form_refusal f) refl
     where
       by : (o : Option Refusal) → form_refusal f ≡ o → Says f o
@@ -265,7 +265,7 @@ abbrev layout_in : Layout → Result Layout Refusal → Layout
 layout_in l (Ok m) = m
 layout_in l (Err r) = l
 
-refused_by_first : (f : File) (r : Refusal) → layout_of f.bytes ≡ Ok f.layout → Says f (Some r) → Refused f.bytes r
+pub refused_by_first : (f : File) (r : Refusal) → layout_of f.bytes ≡ Ok f.layout → Says f (Some r) → Refused f.bytes r
 refused_by_first f r e x = record {
   first = inr (f.layout, e, x.0);
   not_accepted = λ m a. x.1 (subst (λ l. Right (under f.bytes l)) (ap (layout_in f.layout) (sym a.layout ∙ e)) a.right);

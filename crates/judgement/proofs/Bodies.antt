@@ -33,7 +33,7 @@ module _ (f : File) (wanted : ℕ → Bool) where
           ⊎_elim (λ (p : s < b). inr (rest (omega arith))) (λ (p : b ≤ s). let q : b ≡ s = omega arith in inl (subst (λ n. SomeAt A [] (body_at f n)) q x)) (cases_lt s b)
       go false w rest = rest (later s b i e w)
 
-  always_none : (v s k : ℕ) → ((b : ℕ) → s ≤ b → b < s + k → wanted b ≡ true → always (body_at f b) v ≡ false) → always (together (bodies f wanted s k)) v ≡ false
+  pub always_none : (v s k : ℕ) → ((b : ℕ) → s ≤ b → b < s + k → wanted b ≡ true → always (body_at f b) v ≡ false) → always (together (bodies f wanted s k)) v ≡ false
   always_none v s zero h = refl
   always_none v s (suc k) h = go (wanted s) refl (always_none v (s + 1) k (λ b i j. h b (omega arith) (omega arith)))
     where
@@ -42,7 +42,7 @@ module _ (f : File) (wanted : ℕ → Bool) where
       go true e rest = or_from (always (body_at f s) v) (always (together (bodies f wanted (s + 1) k)) v) (h s (omega arith) (omega arith) e) rest
       go false e rest = rest
 
-  always_some : (v s k b : ℕ) → s ≤ b → b < s + k → wanted b ≡ true → always (body_at f b) v ≡ true → always (together (bodies f wanted s k)) v ≡ true
+  pub always_some : (v s k b : ℕ) → s ≤ b → b < s + k → wanted b ≡ true → always (body_at f b) v ≡ true → always (together (bodies f wanted s k)) v ≡ true
   always_some v s zero b i j e x = absurd (omega arith)
   always_some v s (suc k) b i j e x = go (wanted s) refl (λ h. always_some v (s + 1) k b h (omega arith) e x)
     where

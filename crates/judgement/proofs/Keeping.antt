@@ -19,12 +19,12 @@ same_table : (t u s v : ℕ) → looked_up t u ≡ looked_up s v → t ≡ s
 same_table t u s v h = cc
 
 module _ (m : Meaning) (d : Design) (most : count d ≤ 128) (ways : List Way) (path : Path) (tracks : Tracks ways path) (u t : ℕ) (own : (var d u).label ≡ looked_up t u) (e : Expr) where
-  stay_passes : AllUnder m d (sets_of path.values) (has path.variables) (value_of t u) → Test14 m d ways u e
+  pub stay_passes : AllUnder m d (sets_of path.values) (has path.variables) (value_of t u) → Test14 m d ways u e
   stay_passes h s its off =
       subst (λ z. AllUnder m d (allows ways) (among ways) (value_of z u)) (same_table t u s u (sym own ∙ its))
       (same_all_under m d most (sets_of path.values) (allows ways) tracks.values (has path.variables) (among ways) tracks.variables (value_of t u) h)
 
-  stay_breaks : (o : Offence) → always (together d.clocked) u ≡ false → Offends m d (sets_of path.values) (has path.variables) (value_of t u) o → Test14 m d ways u e → ⊥
+  pub stay_breaks : (o : Offence) → always (together d.clocked) u ≡ false → Offends m d (sets_of path.values) (has path.variables) (value_of t u) o → Test14 m d ways u e → ⊥
   stay_breaks f off o test =
       let all : AllUnder m d (sets_of path.values) (has path.variables) (value_of t u) =
       same_all_under m d most (allows ways) (sets_of path.values) (λ v x h k. sym (tracks.values v x h k)) (among ways) (has path.variables) (λ v h. sym (tracks.variables v h)) (value_of t u) (test t own off) in

@@ -15,15 +15,15 @@ use Rattle.rules.specs.Rules.{offends}
 use Rattle.rules.specs.First.{first, refusal_of, refused_at, refused_in, refused_by, form_refusal, checked}
 
 module _ {A : Type 0} (g : ℕ → Option A) where
-  first_none : first g 0 ≡ None
+  pub first_none : first g 0 ≡ None
   unfolding first
   first_none = refl
 
-  first_more : (i : ℕ) → first g i ≡ None → g i ≡ None → first g (i + 1) ≡ None
+  pub first_more : (i : ℕ) → first g i ≡ None → g i ≡ None → first g (i + 1) ≡ None
   unfolding first
   first_more i e h = rw (add-one, e, h) refl
 
-  first_found : (x : A) (i n : ℕ) → first g i ≡ None → g i ≡ Some x → i < n → first g n ≡ Some x
+  pub first_found : (x : A) (i n : ℕ) → first g i ≡ None → g i ≡ Some x → i < n → first g n ≡ Some x
   unfolding first
   first_found x i zero before here low = absurd (omega arith)
   first_found x i (suc n) before here low =
@@ -33,10 +33,10 @@ module _ {A : Type 0} (g : ℕ → Option A) where
       (cases_lt i n)
 
 -- a number that does not offend gives nothing; one that does gives its refusal
-passes : {A : Type 0} {b : Bool} (x : A) → b ≡ false → cond b (Some x) None ≡ None
+pub passes : {A : Type 0} {b : Bool} (x : A) → b ≡ false → cond b (Some x) None ≡ None
 passes x e = ap (λ b. cond b (Some x) None) e
 
-fails : {A : Type 0} {b : Bool} (x : A) → b ≡ true → cond b (Some x) None ≡ Some x
+pub fails : {A : Type 0} {b : Bool} (x : A) → b ≡ true → cond b (Some x) None ≡ Some x
 fails x e = ap (λ b. cond b (Some x) None) e
 
 abbrev is_ok : Result (Unit {0}) Refusal → Bool
