@@ -9,3 +9,6 @@ mod staying;
 mod typing;
 
 pub use accepted::{Accepted, judge};
+
+#[cfg(test)]
+mod tests;
